@@ -19,6 +19,8 @@
  * formats.md, event-data.md and json.md have the formats, verdict.md what a verdict means, errors.txt and ima-agent(1)
  * what each error number means.
  *
+ * Inputs in other forms, such as the kernel's list as text, are converted by ima_verify_convert.
+ *
  * A verdict covers the boot aggregate and the PCRs that are expected, and no others: `require` says which PCRs it must
  * cover. A verdict on no PCR is no match. With a requirement a verdict is `match` only if no event of the log extends
  * PCR 10 and each entry of the list names it; otherwise the report has a line such as `event 31 extends 10` or `entry
@@ -79,10 +81,10 @@ enum ima_verify_result {
     IMA_VERIFY_TOO_SHORT = 4,
     /* The text has whole lines of entries or events, and there are more: call again. */
     IMA_VERIFY_MORE = 5,
-    /* A pointer is NULL whose size is not 0; or a form, an origin, a purpose, a position, an error or the size of a
-     * summary does not exist; or known files are given without `checks_known`, or to a function that checks no entry;
-     * or of a key and a signature only one is given, or both beside `signature_checked`; or a nonce is given twice, or
-     * both expected PCRs and a quote. Nothing was read or written. */
+    /* A pointer is NULL whose size is not 0; or a form, an origin, a purpose, a conversion, a position, an error or the
+     * size of a summary does not exist; or known files are given without `checks_known`, or to a function that checks
+     * no entry; or of a key and a signature only one is given, or both beside `signature_checked`; or a nonce is given
+     * twice, or both expected PCRs and a quote. Nothing was read or written. */
     IMA_VERIFY_MISUSED = 6
 };
 
@@ -124,7 +126,11 @@ enum ima_verify_error_kind {
     /* The signature of the quote's message: it is none (1 to 4), its scheme (5) or its hash (6) is not the key's, or
      * the key did not sign this message (7). Or the library verifies no signatures by such a key (8), or what begins as
      * PEM is not the text that ima_verify_key gives of a key by which it does (9). */
-    IMA_VERIFY_SIGNATURE = 11
+    IMA_VERIFY_SIGNATURE = 11,
+    /* The text of a measurement list, which ima_verify_convert takes: the place is a line; the first is 1. */
+    IMA_VERIFY_TEXT_LIST = 12,
+    /* The firmware event log that ima_verify_convert takes: the place is an event; the header is event 0. */
+    IMA_VERIFY_LOG_FORM = 13
 };
 
 /* The place of an error that names none, and the PCR of a summary that has none. */
@@ -179,6 +185,15 @@ struct ima_verify_evidence {
      * a line for each that is not, such as `unknown entry 17`, and then the verdict is `differ`. Without bytes in
      * `known` no file is known. */
     bool checks_known;
+    /* Whether an event of the log of type EV_EFI_HCRTM_EVENT in PCR 0 tells that PCR 0 began at 4, if no event tells a
+     * locality (TPM 2.0 Library, part 1, 34.3): so it is where an H-CRTM measured before the firmware ran. If it is
+     * `false`, as a member that is left out is, only an event that tells a locality counts. For a boot and its events
+     * this is a parameter, and that of a quote is not looked at. */
+    bool hcrtm;
+    /* Whether a boot aggregate over PCRs 0 to 7 is taken, as kernels before 5.8 make it; the report then says
+     * `boot_aggregate old_kernel`. It counts for ima_verify_verdict and ima_verify_more, where `require` names PCRs;
+     * the others do not look at it. If it is `false`, as a member that is left out is, none is taken. */
+    bool old_kernel;
 };
 
 /* What a quote is judged by. No file of PCR values is needed: the message has a digest of them. */
@@ -189,8 +204,8 @@ struct ima_verify_quoted {
     struct ima_verify_bytes list;
     /* The message that the TPM signed, a TPMS_ATTEST: the file that `tpm2_quote -m` writes. */
     struct ima_verify_bytes message;
-    /* The machine's attestation key: its public area, a TPM2B_PUBLIC whose credential was activated, or the PEM that
-     * ima_verify_key gives of it. */
+    /* The machine's attestation key: its public area, a TPM2B_PUBLIC or bare, whose credential was activated, or the
+     * PEM that ima_verify_key gives of it. */
     struct ima_verify_bytes key;
     /* The signature of the message by this key: the file that `tpm2_quote -s` writes, with `-f plain` or without. */
     struct ima_verify_bytes signature;
@@ -205,9 +220,10 @@ struct ima_verify_quoted {
      * cannot (ima_verify_evp.h verifies some). `key` and `signature` then have no bytes. If they have none and this is
      * `false`, as a member that is left out is, nothing is attested, and the report ends in `signature not checked`. */
     bool signature_checked;
-    /* The known files, and whether each entry must be of one, as in struct ima_verify_evidence. */
+    /* The known files, whether each entry must be of one, where PCR 0 began, and whether a boot aggregate as kernels
+     * before 5.8 make it is taken, as in struct ima_verify_evidence. */
     struct ima_verify_bytes known;
-    bool checks_known;
+    bool checks_known, hcrtm, old_kernel;
 };
 
 /* The verdict of a summary. */
@@ -297,7 +313,8 @@ uint32_t ima_verify_version(void);
  *   selection, such as `sha256:0,sha256:1`: IMA_VERIFY_DONE, or without bytes IMA_VERIFY_DIFFERS if the verdict by the
  *   quote is no match; the line of an error is JSON. Give it to each call of `events` for the same log, with
  *   `matching_given`.
- * - `known` without `checks_known`, `before` without `compares` and `matching` without `matching_given` are ignored.
+ * - `known` without `checks_known`, `before` without `compares`, `matching` without `matching_given`, `hcrtm` beside
+ *   `of_list` and `old_kernel` beside the word `none` are ignored. `padding` is set in any case.
  * - A later library may add members to lines of JSON. */
 
 struct ima_verify_info {
@@ -313,12 +330,12 @@ enum ima_verify_by {
     IMA_VERIFY_BY_QUOTE = 2
 };
 
-int32_t ima_verify_raw_verdict(const uint8_t *log, size_t log_size, const uint8_t *list, size_t list_size,
-                               const uint8_t *expected, size_t expected_size, const uint8_t *require,
+int32_t ima_verify_raw_verdict(const uint8_t *log, size_t log_size, bool hcrtm, bool old_kernel, const uint8_t *list,
+                               size_t list_size, const uint8_t *expected, size_t expected_size, const uint8_t *require,
                                size_t require_size, const uint8_t *known, size_t known_size, bool checks_known,
                                bool json, uint64_t *numbers, size_t numbers_count, uint8_t *out, size_t capacity,
                                struct ima_verify_info *info);
-int32_t ima_verify_raw_locate(const uint8_t *log, size_t log_size, const uint8_t *list, size_t list_size,
+int32_t ima_verify_raw_locate(const uint8_t *log, size_t log_size, bool hcrtm, const uint8_t *list, size_t list_size,
                               const uint8_t *expected, size_t expected_size, const uint8_t *require,
                               size_t require_size, bool json, uint8_t *out, size_t capacity,
                               struct ima_verify_info *info);
@@ -326,46 +343,50 @@ int32_t ima_verify_raw_replay(const uint8_t *list, size_t list_size, const uint8
                               const uint8_t *require, size_t require_size, const uint8_t *known, size_t known_size,
                               bool checks_known, bool json, uint64_t *numbers, size_t numbers_count, uint8_t *out,
                               size_t capacity, struct ima_verify_info *info);
-int32_t ima_verify_raw_more(const uint8_t *log, size_t log_size, const uint8_t *state, size_t state_size,
-                            const uint8_t *more, size_t more_size, const uint8_t *expected, size_t expected_size,
-                            const uint8_t *require, size_t require_size, const uint8_t *known, size_t known_size,
-                            bool checks_known, bool prefix, bool json, uint64_t *numbers, size_t numbers_count,
-                            uint8_t *next, size_t next_capacity, size_t *next_size, uint8_t *out, size_t capacity,
-                            struct ima_verify_info *info);
-int32_t ima_verify_raw_attest(const uint8_t *log, size_t log_size, const uint8_t *state, size_t state_size,
-                              const uint8_t *more, size_t more_size, const uint8_t *message, size_t message_size,
-                              const uint8_t *key, size_t key_size, const uint8_t *signature, size_t signature_size,
-                              const uint8_t *nonce, size_t nonce_size, const uint8_t *nonce_hex, size_t nonce_hex_size,
-                              const uint8_t *require, size_t require_size, const uint8_t *known, size_t known_size,
-                              bool checks_known, bool allow_sha1, bool signature_checked, bool prefix, bool json,
-                              uint64_t *numbers, size_t numbers_count, uint8_t *next, size_t next_capacity,
-                              size_t *next_size, uint8_t *out, size_t capacity, struct ima_verify_info *info);
+int32_t ima_verify_raw_more(const uint8_t *log, size_t log_size, bool hcrtm, bool old_kernel, const uint8_t *state,
+                            size_t state_size, const uint8_t *more, size_t more_size, const uint8_t *expected,
+                            size_t expected_size, const uint8_t *require, size_t require_size, const uint8_t *known,
+                            size_t known_size, bool checks_known, bool prefix, bool json, uint64_t *numbers,
+                            size_t numbers_count, uint8_t *next, size_t next_capacity, size_t *next_size, uint8_t *out,
+                            size_t capacity, struct ima_verify_info *info);
+int32_t ima_verify_raw_attest(const uint8_t *log, size_t log_size, bool hcrtm, bool old_kernel, const uint8_t *state,
+                              size_t state_size, const uint8_t *more, size_t more_size, const uint8_t *message,
+                              size_t message_size, const uint8_t *key, size_t key_size, const uint8_t *signature,
+                              size_t signature_size, const uint8_t *nonce, size_t nonce_size, const uint8_t *nonce_hex,
+                              size_t nonce_hex_size, const uint8_t *require, size_t require_size, const uint8_t *known,
+                              size_t known_size, bool checks_known, bool allow_sha1, bool signature_checked,
+                              bool prefix, bool json, uint64_t *numbers, size_t numbers_count, uint8_t *next,
+                              size_t next_capacity, size_t *next_size, uint8_t *out, size_t capacity,
+                              struct ima_verify_info *info);
 int32_t ima_verify_raw_expected(const uint8_t *printed, size_t printed_size, const uint8_t *registers,
                                 size_t registers_size, bool json, uint8_t *out, size_t capacity,
                                 struct ima_verify_info *info);
-int32_t ima_verify_raw_registers(const uint8_t *bytes, size_t size, bool of_list, bool json, uint8_t *out,
+int32_t ima_verify_raw_registers(const uint8_t *bytes, size_t size, bool of_list, bool hcrtm, bool json, uint8_t *out,
                                  size_t capacity, struct ima_verify_info *info);
 int32_t ima_verify_raw_key(const uint8_t *area, size_t area_size, bool endorsement, bool json, uint8_t *out,
                            size_t capacity, struct ima_verify_info *info);
 int32_t ima_verify_raw_entries(const uint8_t *list, size_t list_size, size_t *offset, size_t *number, bool json,
                                uint8_t *out, size_t capacity, struct ima_verify_info *info);
-int32_t ima_verify_raw_matching(const uint8_t *log, size_t log_size, uint32_t by, const uint8_t *expected,
-                                size_t expected_size, const uint8_t *list, size_t list_size, const uint8_t *message,
-                                size_t message_size, const uint8_t *key, size_t key_size, const uint8_t *signature,
-                                size_t signature_size, const uint8_t *nonce, size_t nonce_size,
-                                const uint8_t *nonce_hex, size_t nonce_hex_size, const uint8_t *require,
-                                size_t require_size, bool allow_sha1, bool signature_checked, uint8_t *out,
-                                size_t capacity, struct ima_verify_info *info);
-int32_t ima_verify_raw_boot(const uint8_t *log, size_t log_size, const uint8_t *before, size_t before_size,
-                            bool compares, uint32_t by, const uint8_t *expected, size_t expected_size,
-                            const uint8_t *list, size_t list_size, const uint8_t *message, size_t message_size,
-                            const uint8_t *key, size_t key_size, const uint8_t *signature, size_t signature_size,
-                            const uint8_t *nonce, size_t nonce_size, const uint8_t *nonce_hex, size_t nonce_hex_size,
-                            const uint8_t *require, size_t require_size, bool allow_sha1, bool signature_checked,
-                            bool json, uint8_t *out, size_t capacity, struct ima_verify_info *info);
+int32_t ima_verify_raw_matching(const uint8_t *log, size_t log_size, bool hcrtm, bool old_kernel, uint32_t by,
+                                const uint8_t *expected, size_t expected_size, const uint8_t *list, size_t list_size,
+                                const uint8_t *message, size_t message_size, const uint8_t *key, size_t key_size,
+                                const uint8_t *signature, size_t signature_size, const uint8_t *nonce,
+                                size_t nonce_size, const uint8_t *nonce_hex, size_t nonce_hex_size,
+                                const uint8_t *require, size_t require_size, bool allow_sha1, bool signature_checked,
+                                uint8_t *out, size_t capacity, struct ima_verify_info *info);
+int32_t ima_verify_raw_boot(const uint8_t *log, size_t log_size, bool hcrtm, bool old_kernel, const uint8_t *before,
+                            size_t before_size, bool compares, uint32_t by, const uint8_t *expected,
+                            size_t expected_size, const uint8_t *list, size_t list_size, const uint8_t *message,
+                            size_t message_size, const uint8_t *key, size_t key_size, const uint8_t *signature,
+                            size_t signature_size, const uint8_t *nonce, size_t nonce_size, const uint8_t *nonce_hex,
+                            size_t nonce_hex_size, const uint8_t *require, size_t require_size, bool allow_sha1,
+                            bool signature_checked, bool json, uint8_t *out, size_t capacity,
+                            struct ima_verify_info *info);
 int32_t ima_verify_raw_events(const uint8_t *log, size_t log_size, const uint8_t *matching, size_t matching_size,
                               bool matching_given, size_t *offset, size_t *number, uint8_t *out, size_t capacity,
                               struct ima_verify_info *info);
+int32_t ima_verify_raw_convert(const uint8_t *bytes, size_t size, uint32_t conversion, size_t *padding, uint8_t *out,
+                               size_t capacity, struct ima_verify_info *info);
 int32_t ima_verify_raw_error_text(uint32_t kind, uint32_t number, uint64_t place, uint8_t *out, size_t capacity,
                                   struct ima_verify_info *info);
 
@@ -456,9 +477,9 @@ ima_verify_verdict(const struct ima_verify_evidence *evidence, enum ima_verify_f
     if (!ima_verify_is_evidence(evidence) || !ima_verify_is_summary(summary) || !ima_verify_is_output(form, output))
         return IMA_VERIFY_MISUSED;
     return ima_verify_end(output, &info, ima_verify_raw_verdict(
-        IMA_VERIFY_IN(evidence->log), IMA_VERIFY_IN(evidence->list), IMA_VERIFY_IN(evidence->expected),
-        IMA_VERIFY_IN(evidence->require), IMA_VERIFY_IN(evidence->known), evidence->checks_known,
-        form == IMA_VERIFY_JSON, IMA_VERIFY_NUMBERS(summary), IMA_VERIFY_OUT(output), &info));
+        IMA_VERIFY_IN(evidence->log), evidence->hcrtm, evidence->old_kernel, IMA_VERIFY_IN(evidence->list),
+        IMA_VERIFY_IN(evidence->expected), IMA_VERIFY_IN(evidence->require), IMA_VERIFY_IN(evidence->known),
+        evidence->checks_known, form == IMA_VERIFY_JSON, IMA_VERIFY_NUMBERS(summary), IMA_VERIFY_OUT(output), &info));
 }
 
 /* Where each expected PCR first has its value, such as `sha256 10 after entry 98`. IMA_VERIFY_DONE if a PCR is
@@ -472,7 +493,7 @@ ima_verify_locate(const struct ima_verify_evidence *evidence, enum ima_verify_fo
     if (!ima_verify_is_evidence(evidence) || evidence->checks_known || !ima_verify_is_output(form, output))
         return IMA_VERIFY_MISUSED;
     return ima_verify_end(output, &info, ima_verify_raw_locate(
-        IMA_VERIFY_IN(evidence->log), IMA_VERIFY_IN(evidence->list), IMA_VERIFY_IN(evidence->expected),
+        IMA_VERIFY_IN(evidence->log), evidence->hcrtm, IMA_VERIFY_IN(evidence->list), IMA_VERIFY_IN(evidence->expected),
         IMA_VERIFY_IN(evidence->require), form == IMA_VERIFY_JSON, IMA_VERIFY_OUT(output), &info));
 }
 
@@ -527,10 +548,10 @@ ima_verify_more(const struct ima_verify_evidence *evidence, struct ima_verify_by
         || !ima_verify_is_output(form, next) || !ima_verify_is_output(form, output))
         return IMA_VERIFY_MISUSED;
     result = ima_verify_raw_more(
-        IMA_VERIFY_IN(evidence->log), IMA_VERIFY_IN(state), IMA_VERIFY_IN(evidence->list),
-        IMA_VERIFY_IN(evidence->expected), IMA_VERIFY_IN(evidence->require), IMA_VERIFY_IN(evidence->known),
-        evidence->checks_known, prefix, form == IMA_VERIFY_JSON, IMA_VERIFY_NUMBERS(summary), IMA_VERIFY_OUT(next),
-        &next_info.size, IMA_VERIFY_OUT(output), &info);
+        IMA_VERIFY_IN(evidence->log), evidence->hcrtm, evidence->old_kernel, IMA_VERIFY_IN(state),
+        IMA_VERIFY_IN(evidence->list), IMA_VERIFY_IN(evidence->expected), IMA_VERIFY_IN(evidence->require),
+        IMA_VERIFY_IN(evidence->known), evidence->checks_known, prefix, form == IMA_VERIFY_JSON,
+        IMA_VERIFY_NUMBERS(summary), IMA_VERIFY_OUT(next), &next_info.size, IMA_VERIFY_OUT(output), &info);
     (void)ima_verify_end(next, &next_info, result);
     return ima_verify_end(output, &info, result);
 }
@@ -568,8 +589,9 @@ ima_verify_attest_more(const struct ima_verify_quoted *quoted, struct ima_verify
         || !ima_verify_is_output(form, next) || !ima_verify_is_output(form, output))
         return IMA_VERIFY_MISUSED;
     result = ima_verify_raw_attest(
-        IMA_VERIFY_IN(quoted->log), IMA_VERIFY_IN(state), IMA_VERIFY_IN(quoted->list),
-        IMA_VERIFY_IN(quoted->message), IMA_VERIFY_IN(ima_verify_beside(quoted->key, quoted->signature)),
+        IMA_VERIFY_IN(quoted->log), quoted->hcrtm, quoted->old_kernel, IMA_VERIFY_IN(state),
+        IMA_VERIFY_IN(quoted->list), IMA_VERIFY_IN(quoted->message),
+        IMA_VERIFY_IN(ima_verify_beside(quoted->key, quoted->signature)),
         IMA_VERIFY_IN(ima_verify_beside(quoted->signature, quoted->key)),
         IMA_VERIFY_IN(quoted->nonce), IMA_VERIFY_IN(quoted->nonce_hex), IMA_VERIFY_IN(quoted->require),
         IMA_VERIFY_IN(quoted->known), quoted->checks_known, quoted->allow_sha1, quoted->signature_checked, prefix,
@@ -610,7 +632,9 @@ enum ima_verify_origin {
     /* A firmware event log. */
     IMA_VERIFY_OF_LOG = 0,
     /* A measurement list without a log, from the reset values of all PCRs. It is no verdict. */
-    IMA_VERIFY_OF_LIST = 1
+    IMA_VERIFY_OF_LIST = 1,
+    /* A firmware event log, with `hcrtm` as in struct ima_verify_evidence. */
+    IMA_VERIFY_OF_HCRTM_LOG = 2
 };
 
 /* The PCR values after a log, or after a list alone, that differ from the reset values, as lines of expected PCRs. */
@@ -618,11 +642,12 @@ IMA_VERIFY_USE_RESULT static inline enum ima_verify_result
 ima_verify_registers(enum ima_verify_origin origin, struct ima_verify_bytes bytes, enum ima_verify_form form,
                      struct ima_verify_output *output) {
     struct ima_verify_info info;
-    if ((origin != IMA_VERIFY_OF_LOG && origin != IMA_VERIFY_OF_LIST) || !ima_verify_is_given(bytes)
-        || !ima_verify_is_output(form, output))
+    if ((origin != IMA_VERIFY_OF_LOG && origin != IMA_VERIFY_OF_LIST && origin != IMA_VERIFY_OF_HCRTM_LOG)
+        || !ima_verify_is_given(bytes) || !ima_verify_is_output(form, output))
         return IMA_VERIFY_MISUSED;
     return ima_verify_end(output, &info, ima_verify_raw_registers(
-        IMA_VERIFY_IN(bytes), origin == IMA_VERIFY_OF_LIST, form == IMA_VERIFY_JSON, IMA_VERIFY_OUT(output), &info));
+        IMA_VERIFY_IN(bytes), origin == IMA_VERIFY_OF_LIST, origin == IMA_VERIFY_OF_HCRTM_LOG, form == IMA_VERIFY_JSON,
+        IMA_VERIFY_OUT(output), &info));
 }
 
 /* What a key of a TPM is for. */
@@ -634,9 +659,9 @@ enum ima_verify_purpose {
 };
 
 /* The name of a key, its type and size, its scheme and its PEM, by its public area: a TPM2B_PUBLIC, the file that
- * `tpm2_createak -u` and `tpm2_createek -u` write. IMA_VERIFY_DONE if the key never leaves the TPM that made it, is
- * restricted and strong, and is fit for its purpose; the text is what `ima-agent key` prints. Otherwise it is refused
- * (`refused: key fault 1` to `22`).
+ * `tpm2_createak -u` and `tpm2_createek -u` write, or a bare TPMT_PUBLIC. IMA_VERIFY_DONE if the key never leaves the
+ * TPM that made it, is restricted and strong, and is fit for its purpose; the text is what `ima-agent key` prints.
+ * Otherwise it is refused (`refused: key fault 1` to `22`).
  *
  * An area does not say whose TPM the key is in, and anyone can write one. Take the PEM of an attestation key only after
  * a credential was activated that was made to this name and to the machine's endorsement key, as `ima-enroll` does. */
@@ -652,11 +677,39 @@ ima_verify_key(struct ima_verify_bytes area, enum ima_verify_purpose purpose, en
         IMA_VERIFY_OUT(output), &info));
 }
 
+/* ---- inputs in other forms */
+
+/* What ima_verify_convert takes. */
+enum ima_verify_conversion {
+    /* A measurement list as text, as the kernel's ascii_runtime_measurements has it; it gives the binary list. */
+    IMA_VERIFY_CONVERT_LIST = 1,
+    /* A firmware event log in the SHA-1 form (TCG, for TPM 1.2), or one with zeros or bytes 0xFF behind its last event;
+     * it gives a crypto-agile log without these. */
+    IMA_VERIFY_CONVERT_LOG = 2
+};
+
+/* The input in the form that the other functions read. IMA_VERIFY_DONE if the result's entries have exactly these lines
+ * and are genuine, or its events are these; then `padding`, if it is not NULL, has how many bytes behind the last event
+ * were left out. Otherwise the input is refused (IMA_VERIFY_TEXT_LIST, IMA_VERIFY_LOG_FORM), and `padding` is 0. Of a
+ * log in the SHA-1 form only SHA-1 tells what it says: whoever can make collisions can change it. */
+IMA_VERIFY_USE_RESULT static inline enum ima_verify_result
+ima_verify_convert(struct ima_verify_bytes bytes, enum ima_verify_conversion conversion, size_t *padding,
+                   struct ima_verify_output *output) {
+    struct ima_verify_info info;
+    size_t unasked;
+    if (!ima_verify_is_given(bytes) || !ima_verify_is_output(IMA_VERIFY_TEXT, output)
+        || (conversion != IMA_VERIFY_CONVERT_LIST && conversion != IMA_VERIFY_CONVERT_LOG))
+        return IMA_VERIFY_MISUSED;
+    return ima_verify_end(output, &info, ima_verify_raw_convert(
+        IMA_VERIFY_IN(bytes), conversion, padding ? padding : &unasked, IMA_VERIFY_OUT(output), &info));
+}
+
 /* ---- what was booted, entries and events
  *
  * `expected` or `quoted`, of which one or both are NULL, says which PCRs match, and so which data of a log is
- * confirmed: the text of expected PCR values, or a quote with the list. A quote confirms nothing unless
- * ima_verify_attest would return IMA_VERIFY_DONE. Its member `log` is not looked at, and it has no known files. */
+ * confirmed: the text of expected PCR values, or a quote with the list. A quote confirms the PCRs that `require` names,
+ * and nothing unless ima_verify_attest would return IMA_VERIFY_DONE. Its member `log` is not looked at, and it has no
+ * known files. */
 
 static inline bool ima_verify_is_confirming(const struct ima_verify_bytes *expected,
                                             const struct ima_verify_quoted *quoted) {
@@ -691,11 +744,11 @@ static inline struct ima_verify_confirming ima_verify_confirming_by(const struct
         (confirming).quoted.allow_sha1, (confirming).quoted.signature_checked
 
 /* What a machine booted, by its log, as `ima-agent boot` prints it: secure boot, firmware, images, commands, variables,
- * each confirmed, unknown, or as the log claims. `before`, if it is not NULL, is the log of an earlier boot, with which
- * this one is compared; an error of a log may be of either. IMA_VERIFY_DONE, or IMA_VERIFY_DIFFERS if the verdict by the
- * quote is no match. */
+ * each confirmed or unknown; with neither `expected` nor `quoted` lines of what the log claims, each marked `claimed`.
+ * `before`, if it is not NULL, is the log of an earlier boot, with which this one is compared; an error of a log may be
+ * of either. IMA_VERIFY_DONE, or IMA_VERIFY_DIFFERS if the verdict by the quote is no match. */
 IMA_VERIFY_USE_RESULT static inline enum ima_verify_result
-ima_verify_boot(struct ima_verify_bytes log, const struct ima_verify_bytes *before,
+ima_verify_boot(struct ima_verify_bytes log, bool hcrtm, const struct ima_verify_bytes *before,
                 const struct ima_verify_bytes *expected, const struct ima_verify_quoted *quoted,
                 enum ima_verify_form form, struct ima_verify_output *output) {
     struct ima_verify_info info;
@@ -705,8 +758,8 @@ ima_verify_boot(struct ima_verify_bytes log, const struct ima_verify_bytes *befo
         || !ima_verify_is_output(form, output))
         return IMA_VERIFY_MISUSED;
     return ima_verify_end(output, &info, ima_verify_raw_boot(
-        IMA_VERIFY_IN(log), IMA_VERIFY_IN(earlier), before != NULL, IMA_VERIFY_BY(confirming), form == IMA_VERIFY_JSON,
-        IMA_VERIFY_OUT(output), &info));
+        IMA_VERIFY_IN(log), hcrtm, confirming.quoted.old_kernel, IMA_VERIFY_IN(earlier), before != NULL,
+        IMA_VERIFY_BY(confirming), form == IMA_VERIFY_JSON, IMA_VERIFY_OUT(output), &info));
 }
 
 /* Where lines of entries or events continue: all zero at first, and then what the last call set. Any other is not
@@ -742,11 +795,11 @@ ima_verify_entries(struct ima_verify_bytes list, struct ima_verify_position *pos
 
 /* Asks which PCRs match, and keeps the answer in the position. The line of an error goes to the output. */
 static inline enum ima_verify_result
-ima_verify_ask_matching(struct ima_verify_bytes log, struct ima_verify_confirming by,
+ima_verify_ask_matching(struct ima_verify_bytes log, bool hcrtm, struct ima_verify_confirming by,
                         struct ima_verify_position *position, struct ima_verify_output *output) {
     struct ima_verify_info info, none = {0, IMA_VERIFY_NO_ERROR, 0, IMA_VERIFY_NO_PLACE};
-    int32_t result = ima_verify_raw_matching(IMA_VERIFY_IN(log), IMA_VERIFY_BY(by), position->matching,
-                                             sizeof position->matching, &info);
+    int32_t result = ima_verify_raw_matching(IMA_VERIFY_IN(log), hcrtm, by.quoted.old_kernel, IMA_VERIFY_BY(by),
+                                             position->matching, sizeof position->matching, &info);
     if (result == IMA_VERIFY_DONE || result == IMA_VERIFY_DIFFERS) {
         position->asked = 1 + result;
         position->matching_size = info.size;
@@ -764,7 +817,7 @@ ima_verify_ask_matching(struct ima_verify_bytes log, struct ima_verify_confirmin
  * call judges them, gives the line of an error (those of ima_verify_boot), and the last call returns
  * IMA_VERIFY_DIFFERS if the verdict by the quote is no match. Give each call the same. */
 IMA_VERIFY_USE_RESULT static inline enum ima_verify_result
-ima_verify_events(struct ima_verify_bytes log, const struct ima_verify_bytes *expected,
+ima_verify_events(struct ima_verify_bytes log, bool hcrtm, const struct ima_verify_bytes *expected,
                   const struct ima_verify_quoted *quoted, struct ima_verify_position *position,
                   struct ima_verify_output *output) {
     struct ima_verify_info info;
@@ -777,7 +830,7 @@ ima_verify_events(struct ima_verify_bytes log, const struct ima_verify_bytes *ex
     if (!asks && position->asked) return IMA_VERIFY_MISUSED;
     if (asks && (!position->asked || !position->offset)) {
         struct ima_verify_confirming by = ima_verify_confirming_by(expected, quoted);
-        enum ima_verify_result asked = ima_verify_ask_matching(log, by, position, output);
+        enum ima_verify_result asked = ima_verify_ask_matching(log, hcrtm, by, position, output);
         if (asked > IMA_VERIFY_DIFFERS) return asked;
     }
     result = ima_verify_raw_events(IMA_VERIFY_IN(log), position->matching, asks ? position->matching_size : 0, asks,

@@ -86,7 +86,7 @@ var lineTypes = map[string]any{
 	"verify": Verdict{}, "attest": Attestation{}, "replay": ListVerdict{}, "places": Places{}, "pcrs": PCRs{}, "key": Key{},
 	"header": LogHeader{}, "event": Event{}, "entry": Entry{}, "end": endLine{}, "error": errorLine{},
 	"secure_boot": secureBootLine{}, "firmware_version": versionLine{}, "image": BootImage{}, "command": BootCommand{},
-	"ima_policy": IMAPolicy{}, "boot_variable": BootVariable{}, "alike": ComparedRegister{}, "changed": ChangedEvent{},
+	"ima_policy": IMAPolicy{}, "boot_variable": BootVariable{}, "claim_data": Claim{}, "alike": ComparedRegister{}, "changed": ChangedEvent{},
 }
 
 func TestMembersAreThoseOfTheSchema(t *testing.T) {
@@ -215,7 +215,7 @@ func TestCallIsMadeAgainWithAsMuchCapacityAsItNeeds(t *testing.T) {
 		checkUnexpected(t, err, size)
 	}
 	given, err = askForBoth(make([]byte, 1), make([]byte, 1), func(next, out []byte) reply {
-		return callMore(bootLog, nil, earlierList(), earlierTPM, []byte("sha256:10"), knownFiles{}, false, next, out)
+		return callMore(bootLog, earlierList(), earlierTPM, []byte("sha256:10"), settings{}, next, out)
 	})
 	equal(t, each(err, given.next), each(nil, earlierSession().State()))
 }

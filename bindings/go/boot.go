@@ -9,6 +9,8 @@ import (
 // Evidence is what confirms the events of a log: ByExpected or ByQuote. By the zero value nothing is confirmed.
 type Evidence struct {
 	by             uint32
+	hcrtm          bool
+	oldKernel      bool
 	expected, list []byte
 	quote          Quote
 }
@@ -18,15 +20,27 @@ func ByExpected(expected []byte) Evidence {
 	return Evidence{by: byExpected, expected: expected}
 }
 
-// ByQuote has events be confirmed by a quote, which has to be a match for the log and this list, as Attest gives it.
+// ByQuote has events of the PCRs in Require be confirmed by a quote, which has to be a match for the log and this list, as Attest gives it.
 func ByQuote(list []byte, quote Quote) Evidence {
 	return Evidence{by: byQuote, list: list, quote: quote}
+}
+
+// HCRTM is the same evidence of a log whose H-CRTM event tells where PCR 0 began, as the option HCRTM has it.
+func (e Evidence) HCRTM() Evidence {
+	e.hcrtm = true
+	return e
+}
+
+// OldKernel is the same evidence, by a quote, where a boot aggregate is taken as the option OldKernel has it. It is refused of other evidence.
+func (e Evidence) OldKernel() Evidence {
+	e.oldKernel = true
+	return e
 }
 
 // BootReport is what a machine booted (docs/event-data.md). In each field Claimed is what an event's data says without being confirmed.
 //
 // Of Images, Commands and BootVariables an item whose Event is Unknown says that nothing confirms more. Registers and Changes compare
-// the log with an earlier one. QuoteDiffers says that a quote is no match for log and list: nothing is confirmed then.
+// the log with an earlier one. Without evidence Claimed has what events claim, and all else is unknown. QuoteDiffers says that a quote is no match for log and list: nothing is confirmed then.
 type BootReport struct {
 	SecureBoot      SecureBoot
 	FirmwareVersion *Content // nil if nothing confirms it
@@ -34,6 +48,7 @@ type BootReport struct {
 	Commands        []BootCommand
 	IMAPolicy       IMAPolicy
 	BootVariables   []BootVariable
+	Claimed         []Claim
 	Registers       []ComparedRegister
 	Changes         []ChangedEvent
 	QuoteDiffers    bool
@@ -80,12 +95,13 @@ type BootImage struct {
 // BootCommand is a text that a boot loader measured into PCR 8 or 12, such as the command line of a kernel. If the Event
 // is Unknown, texts of the PCR from the event From on are not reported; if From is 0, none is.
 type BootCommand struct {
-	Event    Number          `json:"command"`
-	Register int             `json:"register"`
-	Text     string          `json:"text,omitempty"`
-	TextHex  Hex             `json:"text_hex,omitempty"` // in place of Text, if that is not valid in its encoding
-	Claimed  *ClaimedCommand `json:"claimed,omitempty"`
-	From     uint64          `json:"event,omitempty"`
+	Event        Number          `json:"command"`
+	Register     int             `json:"register"`
+	RegisterName string          `json:"register_name,omitempty"`
+	Text         string          `json:"text,omitempty"`
+	TextHex      Hex             `json:"text_hex,omitempty"` // in place of Text, if that is not valid in its encoding
+	Claimed      *ClaimedCommand `json:"claimed,omitempty"`
+	From         uint64          `json:"event,omitempty"`
 }
 
 // ClaimedCommand is what an event claims of a command of GRUB.
@@ -108,19 +124,34 @@ type BootVariable struct {
 // ComparedRegister is a PCR that one of two logs extends. Alike is how many first events have the same digests in both, or All, or Unknown.
 // Bank is the first in which the logs differ, or empty.
 type ComparedRegister struct {
-	Register int       `json:"register"`
-	Bank     Algorithm `json:"bank,omitempty"`
-	Alike    Number    `json:"alike"`
+	Register     int       `json:"register"`
+	RegisterName string    `json:"register_name,omitempty"`
+	Bank         Algorithm `json:"bank,omitempty"`
+	Alike        Number    `json:"alike"`
 }
 
 // ChangedEvent is an event that only one of two logs has: Now is its number in the log, or Before that in the earlier log. Digest is that
 // in the Bank of its ComparedRegister.
 type ChangedEvent struct {
-	Register int     `json:"register"`
-	Now      uint64  `json:"now,omitempty"`
-	Before   uint64  `json:"before,omitempty"`
-	Digest   Hex     `json:"digest,omitempty"`
-	Claimed  Content `json:"claimed"`
+	Register     int     `json:"register"`
+	RegisterName string  `json:"register_name,omitempty"`
+	Now          uint64  `json:"now,omitempty"`
+	Before       uint64  `json:"before,omitempty"`
+	Digest       Hex     `json:"digest,omitempty"`
+	Claimed      Content `json:"claimed"`
+}
+
+// Claim is what the event of the number Event claims, which nothing confirms: of the other fields those of one kind.
+type Claim struct {
+	Event           uint64       `json:"event"`
+	SecureBoot      SecureBoot   `json:"secure_boot,omitempty"`
+	FirmwareVersion *Content     `json:"firmware_version,omitempty"`
+	Digests         PerBank[Hex] `json:"digests,omitempty"`
+	Image           *Content     `json:"image,omitempty"`
+	Register        int          `json:"register,omitempty"`
+	RegisterName    string       `json:"register_name,omitempty"`
+	Command         *Content     `json:"command,omitempty"`
+	BootVariable    *Content     `json:"boot_variable,omitempty"`
 }
 
 // Boot says what a machine booted, as far as the evidence confirms the events of its log.
@@ -178,6 +209,11 @@ func (b *BootReport) add(line []byte) bool {
 		return addTo(&b.Registers, line)
 	case has("now"), has("before"):
 		return addTo(&b.Changes, line)
+	case string(members["claimed"]) == `"all"`:
+		b.SecureBoot, b.IMAPolicy.State = SecureBootUnknown, string(SecureBootUnknown)
+		return true
+	case has("claimed"):
+		return addTo(&b.Claimed, members["claimed"])
 	default:
 		return true
 	}

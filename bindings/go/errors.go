@@ -19,6 +19,8 @@ const (
 	KindKey        Kind = "key"
 	KindKnown      Kind = "known" // the known files
 	KindSignature  Kind = "signature"
+	KindTextList   Kind = "text_list" // what ConvertList takes
+	KindLogForm    Kind = "log_form"  // what ConvertLog takes
 )
 
 // RefusedError is the error of an input that is refused.

@@ -56,41 +56,45 @@ const NothingRequired = "none"
 // Verify gives the verdict on a firmware event log, a measurement list and the expected PCRs that a text states.
 //
 // require names the PCRs that must be among the expected ones, such as "sha256:0-10" or "sha256:0-7,sha1:10". Each that is not has
-// a row whose state is StateMissing. A requirement without PCR 10 is refused, except NothingRequired. The one option is Known.
+// a row whose state is StateMissing. A requirement without PCR 10 is refused, except NothingRequired. Options are Known, HCRTM and OldKernel.
 func Verify(log, list, expected []byte, require string, options ...Option) (Verdict, error) {
-	known, err := knownIn(options)
+	with, err := settingsIn(options, true, true, true)
 	if err != nil {
 		return Verdict{}, err
 	}
-	return resultFor[Verdict](func(out []byte) reply { return callVerdict(log, list, expected, []byte(require), known, out) })
+	return resultFor[Verdict](func(out []byte) reply { return callVerdict(log, list, expected, []byte(require), with, out) })
 }
 
 // Attest gives the verdict on a firmware event log and a measurement list by a quote with its signature. No file of PCR values is needed.
 //
 // A quote is refused with KindSignature, KindKey or KindQuote, or with KindArgument if it requires less than PCRs 0 to 10, its nonce is too
-// short or not hexadecimal, or its members do not belong together. The one option is Known.
+// short or not hexadecimal, or its members do not belong together. Options are Known, HCRTM and OldKernel.
 func Attest(log, list []byte, quote Quote, options ...Option) (Attestation, error) {
-	known, err := knownIn(options)
+	with, err := settingsIn(options, true, true, true)
 	if err != nil {
 		return Attestation{}, err
 	}
-	found, _, err := attestFrom(log, list, quote, settings{known: known})
+	found, _, err := attestFrom(log, list, quote, with)
 	return found, err
 }
 
-// Locate says where each expected PCR first has its value. The arguments and the errors are those of Verify, without options.
-func Locate(log, list, expected []byte, require string) (Places, error) {
-	return resultFor[Places](func(out []byte) reply { return callLocate(log, list, expected, []byte(require), out) })
+// Locate says where each expected PCR first has its value. The arguments and the errors are those of Verify. The one option is HCRTM.
+func Locate(log, list, expected []byte, require string, options ...Option) (Places, error) {
+	with, err := settingsIn(options, false, true, false)
+	if err != nil {
+		return Places{}, err
+	}
+	return resultFor[Places](func(out []byte) reply { return callLocate(log, list, expected, []byte(require), with.hcrtm, out) })
 }
 
 // Replay gives the verdict on a measurement list without a log. The list is replayed from the PCRs' reset values, so a PCR that the
-// firmware extends too differs. The arguments are as in Verify. A list without entries is no match.
+// firmware extends too differs. The arguments are as in Verify, and the one option is Known. A list without entries is no match.
 func Replay(list, expected []byte, require string, options ...Option) (ListVerdict, error) {
-	known, err := knownIn(options)
+	with, err := settingsIn(options, true, false, false)
 	if err != nil {
 		return ListVerdict{}, err
 	}
-	return resultFor[ListVerdict](func(out []byte) reply { return callReplay(list, expected, []byte(require), known, out) })
+	return resultFor[ListVerdict](func(out []byte) reply { return callReplay(list, expected, []byte(require), with.known, out) })
 }
 
 // ExpectedFrom gives the lines of expected PCRs, as Verify takes them, that a text which tpm2_pcrread or tpm2_checkquote printed states:
@@ -101,17 +105,49 @@ func ExpectedFrom(printed []byte, registers string) ([]byte, error) {
 	return clone(given.text), err
 }
 
-// Registers gives the PCRs that differ from their reset values after a firmware event log.
-func Registers(log []byte) (PCRs, error) {
-	return resultFor[PCRs](func(out []byte) reply { return callRegisters(log, false, out) })
+// ConvertList gives the binary list of a measurement list as text, such as the kernel's ascii_runtime_measurements. Only a text is taken that
+// has exactly the lines of genuine entries; another is refused with KindTextList.
+func ConvertList(text []byte) ([]byte, error) {
+	list, _, err := convertedBy(text, convertList)
+	return list, err
+}
+
+// ConvertLog gives the crypto-agile log of a log in the SHA-1 form of TPM 1.2, or of one with zeros or bytes 0xFF behind its last event, and
+// how many these were. Another is refused with KindLogForm. A log by SHA-1 is worth nothing against whoever can make collisions.
+func ConvertLog(log []byte) (agile []byte, padding uint64, err error) {
+	return convertedBy(log, convertLog)
+}
+
+func convertedBy(data []byte, conversion uint32) ([]byte, uint64, error) {
+	var padding uint64
+	given, err := ask(make([]byte, len(data)+firstCapacity), func(out []byte) (r reply) {
+		r, padding = callConvert(data, conversion, out)
+		return r
+	})
+	if err == nil && (given.status != done || padding > uint64(len(data))) {
+		err = given.unexpected()
+	}
+	if err != nil {
+		return nil, 0, err
+	}
+	return clone(given.text), padding, nil
+}
+
+// Registers gives the PCRs that differ from their reset values after a firmware event log. The one option is HCRTM.
+func Registers(log []byte, options ...Option) (PCRs, error) {
+	with, err := settingsIn(options, false, true, false)
+	if err != nil {
+		return PCRs{}, err
+	}
+	return resultFor[PCRs](func(out []byte) reply { return callRegisters(log, false, with.hcrtm, out) })
 }
 
 // ListRegisters gives the PCRs, in banks of all algorithms, that differ from their reset values after a measurement list without a log.
 func ListRegisters(list []byte) (PCRs, error) {
-	return resultFor[PCRs](func(out []byte) reply { return callRegisters(list, true, out) })
+	return resultFor[PCRs](func(out []byte) reply { return callRegisters(list, true, false, out) })
 }
 
-// ReadKey gives the attestation key of a public area, a TPM2B_PUBLIC: the file that `tpm2_createak -u` writes.
+// ReadKey gives the attestation key of a public area: a TPM2B_PUBLIC, the file that `tpm2_createak -u` writes, or a bare TPMT_PUBLIC.
 //
 // The key is restricted, never leaves the TPM that made it, signs, and does not decrypt; any other is refused with KindKey. Whose TPM it is
 // in, the area does not say, and anyone can write one. Take the area, or its PEM, for Attest only after a credential for its Name was

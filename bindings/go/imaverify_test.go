@@ -2,6 +2,8 @@ package imaverify
 
 import (
 	"bytes"
+	"crypto/sha1"
+	"crypto/sha256"
 	"encoding/hex"
 	"errors"
 	"fmt"
@@ -134,6 +136,79 @@ func TestKeysOfTheSamples(t *testing.T) {
 	}
 	checkRefused(t, KindKey, 17)(ReadKey(sample("keys/ek-rsa.pub")))
 	checkRefused(t, KindKey, 21)(ReadEndorsementKey(sample("keys/ak-p256.pub")))
+}
+
+func TestInputsAreConverted(t *testing.T) {
+	equal(t, must(ConvertList(sample("real-boot/ima.ascii"))), bootList)
+	found, padding, err := ConvertLog(joined(bootLog, make([]byte, 70000)))
+	equal(t, each(found, padding, err), each(bootLog, uint64(70000), nil))
+	checkRefused(t, KindTextList, 1, 1)(ConvertList([]byte("x")))
+	none, _, err := ConvertLog(bootList)
+	checkRefused(t, KindLogForm, 13)(none, err)
+}
+
+// The log with an event of an H-CRTM, and with what then tells where PCR 0 began.
+var (
+	hcrtmLog = joined(bootLog, []byte{0, 0, 0, 0, 0x10, 0, 0, 0x80, 1, 0, 0, 0, 11, 0}, make([]byte, 36))
+	toldLog  = joined(hcrtmLog, []byte{0, 0, 0, 0, 3, 0, 0, 0, 0, 0, 0, 0, 17, 0, 0, 0}, []byte("StartupLocality\x00\x04"))
+)
+
+func TestEventOfAnHCRTMTellsWherePCR0Began(t *testing.T) {
+	call := func(log []byte, options ...Option) []any {
+		session := NewSession(log, bootTPM, "sha256:0-10", options...)
+		return each(must(Verify(log, bootList, bootTPM, "sha256:0-10", options...)), must(Locate(log, bootList, bootTPM, "sha256:0-10", options...)),
+			must(Attest(log, bootList, sampleQuote, options...)), must(Registers(log, options...)), must(session.More(bootList)))
+	}
+	found, told, plain := call(hcrtmLog, HCRTM()), call(toldLog), call(hcrtmLog)
+	equal(t, each(found, call(bootLog, HCRTM())), each(told, call(bootLog)))
+	equal(t, reflect.DeepEqual(plain[0], told[0]) || reflect.DeepEqual(plain[3], told[3]), false)
+	by := ByExpected(bootTPM)
+	equal(t, must(Boot(hcrtmLog, by.HCRTM())), must(Boot(toldLog, by)))
+	_, err := Replay(bootList, bootTPM, "sha256:10", HCRTM())
+	equal(t, err != nil, true)
+}
+
+// olderBoot gives a list whose boot aggregate is of PCRs 0 to 7 alone, as kernels before 5.8 make it, the PCRs after it, and a quote of these.
+func olderBoot() (list, expected []byte, quote Quote) {
+	var values, payload []byte
+	for _, row := range registersIn(bootTPM)[:11] {
+		values = append(values, row.Value...)
+	}
+	aggregate := sha256.Sum256(values[:8*32])
+	for _, part := range []string{"sha256:\x00" + string(aggregate[:]), "boot_aggregate\x00"} {
+		payload = joined(payload, []byte{byte(len(part)), 0, 0, 0}, []byte(part))
+	}
+	digest, extended := sha1.Sum(payload), sha256.Sum256(payload)
+	list = joined([]byte{10, 0, 0, 0}, digest[:], []byte("\x06\x00\x00\x00ima-ng"), []byte{byte(len(payload)), 0, 0, 0}, payload)
+	tenth := sha256.Sum256(joined(make([]byte, 32), extended[:]))
+	quoted := sha256.Sum256(joined(values[:10*32], tenth[:]))
+	expected = []byte(strings.Join(strings.SplitAfter(string(bootTPM), "\n")[:10], "") + fmt.Sprintf("sha256 10 %x\n", tenth))
+	quote = sampleQuote
+	quote.Key, quote.Signature, quote.SignatureChecked = nil, nil, true
+	quote.Message = joined(quote.Message[:len(quote.Message)-32], quoted[:])
+	return list, expected, quote
+}
+
+func TestBootAggregateOfAnOlderKernelIsTakenIfAskedFor(t *testing.T) {
+	list, expected, quote := olderBoot()
+	for _, options := range [][]Option{nil, {OldKernel()}} {
+		isTaken, wanted := options != nil, BootAggregateWrong
+		evidence := ByQuote(list, quote)
+		if isTaken {
+			wanted, evidence = BootAggregateOldKernel, evidence.OldKernel()
+		}
+		verdict := must(Verify(bootLog, list, expected, "sha256:0-10", options...))
+		more := must(NewSession(bootLog, expected, "sha256:0-10", options...).More(list))
+		found, next := must(Attest(bootLog, list, quote, options...)), must(NewQuoteSession(bootLog, options...).Attest(list, quote))
+		equal(t, each(verdict.Matches, more.Matches, found.Matches, next.Matches), each(isTaken, isTaken, isTaken, isTaken))
+		equal(t, each(verdict.BootAggregate, more.BootAggregate, found.BootAggregate, next.BootAggregate), each(wanted, wanted, wanted, wanted))
+		equal(t, must(Boot(bootLog, evidence)).QuoteDiffers, !isTaken)
+	}
+	equal(t, must(Verify(bootLog, list, expected, NothingRequired, OldKernel())).BootAggregate, BootAggregateWrong)
+	checkRefused(t, KindArgument, 0)(Boot(bootLog, ByExpected(expected).OldKernel()))
+	_, ofPlaces := Locate(bootLog, list, expected, "sha256:10", OldKernel())
+	_, ofList := Replay(list, expected, "sha256:10", OldKernel())
+	equal(t, each(ofPlaces != nil, ofList != nil), each(true, true))
 }
 
 func TestWrongInputsAreRefused(t *testing.T) {

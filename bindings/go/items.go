@@ -89,16 +89,17 @@ type Specification struct {
 // no PCR confirms it. Measured has the part of the data whose hash is the digest, for each bank of which there is one. Confirmed is the part
 // that the evidence of ConfirmedEvents confirms, and otherwise empty. What is not confirmed is only what the log claims, and so is the type.
 type Event struct {
-	Number     uint64        `json:"event"`
-	Register   uint32        `json:"register"`
-	Type       string        `json:"type,omitempty"`
-	TypeNumber uint32        `json:"type_number"`
-	Digests    PerBank[Hex]  `json:"digests"`
-	Data       Hex           `json:"data"`
-	Measured   PerBank[Part] `json:"measured"`
-	Confirmed  Part          `json:"confirmed,omitempty"`
-	Content    Content       `json:"content"`
-	JSON       string        `json:"-"`
+	Number       uint64        `json:"event"`
+	Register     uint32        `json:"register"`
+	RegisterName string        `json:"register_name,omitempty"` // what systemd calls that PCR
+	Type         string        `json:"type,omitempty"`
+	TypeNumber   uint32        `json:"type_number"`
+	Digests      PerBank[Hex]  `json:"digests"`
+	Data         Hex           `json:"data"`
+	Measured     PerBank[Part] `json:"measured"`
+	Confirmed    Part          `json:"confirmed,omitempty"`
+	Content      Content       `json:"content"`
+	JSON         string        `json:"-"`
 }
 
 // Part is a part of an event's data.
@@ -114,18 +115,21 @@ const (
 // Content is what an event's data says. It has one member, by the form of the data, which docs/event-data.md describes. Unknown says
 // that the data has no form of the event's type.
 type Content struct {
-	Separator *uint32   `json:"separator,omitempty"`
-	Text      *string   `json:"text,omitempty"`
-	TextHex   Hex       `json:"text_hex,omitempty"`
-	GUID      string    `json:"guid,omitempty"`
-	Locality  *uint8    `json:"locality,omitempty"`
-	Command   *Command  `json:"command,omitempty"`
-	Variable  *Variable `json:"variable,omitempty"`
-	Image     *Image    `json:"image,omitempty"`
-	GPT       *GPT      `json:"gpt,omitempty"`
-	Blob      *Blob     `json:"blob,omitempty"`
-	Tagged    *Tagged   `json:"tagged,omitempty"`
-	Unknown   bool      `json:"unknown,omitempty"`
+	Separator *uint32 `json:"separator,omitempty"`
+	Text      *string `json:"text,omitempty"`
+	TextHex   Hex     `json:"text_hex,omitempty"`
+	GUID      string  `json:"guid,omitempty"`
+	Locality  *uint8  `json:"locality,omitempty"`
+	// Technology is how a host keeps its guests apart, which docs/schema.json has by number.
+	Technology *uint8    `json:"technology,omitempty"`
+	Command    *Command  `json:"command,omitempty"`
+	Variable   *Variable `json:"variable,omitempty"`
+	Image      *Image    `json:"image,omitempty"`
+	GPT        *GPT      `json:"gpt,omitempty"`
+	Blob       *Blob     `json:"blob,omitempty"`
+	Tagged     *Tagged   `json:"tagged,omitempty"`
+	Handoff    *Handoff  `json:"handoff,omitempty"`
+	Unknown    bool      `json:"unknown,omitempty"`
 }
 
 // Command is a command of GRUB. By what precedes its text, Kind is "grub", "kernel" for the command line of a kernel, or "module" for that
@@ -136,17 +140,20 @@ type Command struct {
 	TextHex Hex    `json:"text_hex,omitempty"`
 }
 
-// Variable is a variable of UEFI. What its value says is in one of the fields after Value, or in none.
+// Variable is a variable of UEFI, and the bytes behind it. What its value says is in one of the fields after Rest, or in none.
 type Variable struct {
-	GUID      string          `json:"guid"`
-	Name      string          `json:"name,omitempty"`
-	NameHex   Hex             `json:"name_hex,omitempty"`
-	Value     Hex             `json:"value"`
-	Flag      *uint8          `json:"flag,omitempty"`
-	Order     []string        `json:"order,omitempty"`
-	Option    *LoadOption     `json:"option,omitempty"`
-	Signature *UEFISignature  `json:"signature,omitempty"`
-	Lists     []SignatureList `json:"lists,omitempty"`
+	GUID        string          `json:"guid"`
+	Name        string          `json:"name,omitempty"`
+	NameHex     Hex             `json:"name_hex,omitempty"`
+	Value       Hex             `json:"value"`
+	Rest        Hex             `json:"rest,omitempty"`
+	Flag        *uint8          `json:"flag,omitempty"`
+	Order       []string        `json:"order,omitempty"`
+	Option      *LoadOption     `json:"option,omitempty"`
+	Certificate *Certificate    `json:"certificate,omitempty"`
+	Signature   *UEFISignature  `json:"signature,omitempty"`
+	Level       *string         `json:"level,omitempty"`
+	Lists       []SignatureList `json:"lists,omitempty"`
 }
 
 // LoadOption is a load option of UEFI.
@@ -161,24 +168,33 @@ type LoadOption struct {
 
 // UEFISignature is a certificate or a hash, and who put it there.
 type UEFISignature struct {
-	Owner string `json:"owner"`
-	Data  Hex    `json:"data"`
+	Owner       string       `json:"owner"`
+	Data        Hex          `json:"data"`
+	Certificate *Certificate `json:"certificate,omitempty"`
+}
+
+// Certificate is a certificate by its bytes alone: their SHA-256, and how many they are.
+type Certificate struct {
+	SHA256 Hex    `json:"sha256"`
+	Size   uint64 `json:"size"`
 }
 
 // SignatureList is a list of signatures of UEFI. Owners has each owner that differs from the one before.
 type SignatureList struct {
-	Type   string   `json:"type"`
-	Count  uint32   `json:"count"`
-	Owners []string `json:"owners"`
+	Type         string        `json:"type"`
+	Count        uint32        `json:"count"`
+	Owners       []string      `json:"owners"`
+	Certificates []Certificate `json:"certificates,omitempty"`
 }
 
-// Image is an image that the firmware loaded. Numbers such as Location are as JSON has them: `0x` and hexadecimal digits.
+// Image is an image that the firmware loaded, and the bytes behind its form. Numbers such as Location are as JSON has them: `0x` and hexadecimal digits.
 type Image struct {
 	Location    string `json:"location"`
 	Size        string `json:"size"`
 	LinkAddress string `json:"link_address"`
 	Path        string `json:"path,omitempty"`
 	PathHex     Hex    `json:"path_hex,omitempty"`
+	Rest        Hex    `json:"rest,omitempty"`
 }
 
 // GPT is a partition table.
@@ -211,4 +227,18 @@ type Tagged struct {
 	ID   uint32 `json:"id"`
 	Text string `json:"text,omitempty"`
 	Data Hex    `json:"data,omitempty"`
+}
+
+// Handoff has vendor tables that firmware hands over, and what it calls them, if it does.
+type Handoff struct {
+	Description    string        `json:"description,omitempty"`
+	DescriptionHex Hex           `json:"description_hex,omitempty"`
+	Tables         []VendorTable `json:"tables"`
+}
+
+// VendorTable is a vendor table. Name is what Linux or EDK2 calls its GUID, if that is a known one.
+type VendorTable struct {
+	GUID    string `json:"guid"`
+	Name    string `json:"name,omitempty"`
+	Address string `json:"address"`
 }

@@ -38,12 +38,20 @@ var kinds = map[uint32]Kind{
 	C.IMA_VERIFY_KEY:        KindKey,
 	C.IMA_VERIFY_KNOWN:      KindKnown,
 	C.IMA_VERIFY_SIGNATURE:  KindSignature,
+	C.IMA_VERIFY_TEXT_LIST:  KindTextList,
+	C.IMA_VERIFY_LOG_FORM:   KindLogForm,
 }
 
 // What says which PCRs match after a log.
 const (
 	byExpected = C.IMA_VERIFY_BY_EXPECTED
 	byQuote    = C.IMA_VERIFY_BY_QUOTE
+)
+
+// What callConvert takes.
+const (
+	convertList = C.IMA_VERIFY_CONVERT_LIST
+	convertLog  = C.IMA_VERIFY_CONVERT_LOG
 )
 
 // reply is what a call returns: its status, the size of a next checkpoint, and that of its text with the error that it is the line of.
@@ -85,17 +93,17 @@ func Version() uint32 {
 
 // (The numbers of a verdict are for programs that read no JSON: none are asked for.)
 
-func callVerdict(log, list, expected, require []byte, known knownFiles, out []byte) reply {
+func callVerdict(log, list, expected, require []byte, with settings, out []byte) reply {
 	var info C.struct_ima_verify_info
 	var numbers C.uint64_t
-	return reported(C.ima_verify_raw_verdict(start(log), size(log), start(list), size(list), start(expected), size(expected),
-		start(require), size(require), start(known.text), size(known.text), C.bool(known.checked), true,
+	return reported(C.ima_verify_raw_verdict(start(log), size(log), C.bool(with.hcrtm), C.bool(with.oldKernel), start(list), size(list),
+		start(expected), size(expected), start(require), size(require), start(with.known.text), size(with.known.text), C.bool(with.known.checked), true,
 		&numbers, 0, start(out), size(out), &info), 0, &info)
 }
 
-func callLocate(log, list, expected, require, out []byte) reply {
+func callLocate(log, list, expected, require []byte, hcrtm bool, out []byte) reply {
 	var info C.struct_ima_verify_info
-	return reported(C.ima_verify_raw_locate(start(log), size(log), start(list), size(list), start(expected), size(expected),
+	return reported(C.ima_verify_raw_locate(start(log), size(log), C.bool(hcrtm), start(list), size(list), start(expected), size(expected),
 		start(require), size(require), true, start(out), size(out), &info), 0, &info)
 }
 
@@ -107,27 +115,29 @@ func callReplay(list, expected, require []byte, known knownFiles, out []byte) re
 		&numbers, 0, start(out), size(out), &info), 0, &info)
 }
 
-func callMore(log, state, data, expected, require []byte, known knownFiles, prefix bool, next, out []byte) reply {
+func callMore(log, data, expected, require []byte, from settings, next, out []byte) reply {
 	var info C.struct_ima_verify_info
 	var numbers C.uint64_t
 	var nextSize C.size_t
-	status := C.ima_verify_raw_more(start(log), size(log), start(state), size(state), start(data), size(data),
+	status := C.ima_verify_raw_more(start(log), size(log), C.bool(from.hcrtm), C.bool(from.oldKernel), start(from.state), size(from.state),
+		start(data), size(data),
 		start(expected), size(expected), start(require), size(require),
-		start(known.text), size(known.text), C.bool(known.checked), C.bool(prefix), true,
+		start(from.known.text), size(from.known.text), C.bool(from.known.checked), C.bool(from.prefix), true,
 		&numbers, 0, start(next), size(next), &nextSize, start(out), size(out), &info)
 	return reported(status, nextSize, &info)
 }
 
-func callAttest(log, state, data []byte, quote Quote, known knownFiles, prefix bool, next, out []byte) reply {
+func callAttest(log, data []byte, quote Quote, from settings, next, out []byte) reply {
 	var info C.struct_ima_verify_info
 	var numbers C.uint64_t
 	var nextSize C.size_t
 	key, signature, nonceHex, require := quote.parts()
-	status := C.ima_verify_raw_attest(start(log), size(log), start(state), size(state), start(data), size(data),
+	status := C.ima_verify_raw_attest(start(log), size(log), C.bool(from.hcrtm), C.bool(from.oldKernel), start(from.state), size(from.state),
+		start(data), size(data),
 		start(quote.Message), size(quote.Message), start(key), size(key), start(signature), size(signature),
 		start(quote.Nonce), size(quote.Nonce), start(nonceHex), size(nonceHex), start(require), size(require),
-		start(known.text), size(known.text), C.bool(known.checked),
-		C.bool(quote.AllowSHA1), C.bool(quote.SignatureChecked), C.bool(prefix), true,
+		start(from.known.text), size(from.known.text), C.bool(from.known.checked),
+		C.bool(quote.AllowSHA1), C.bool(quote.SignatureChecked), C.bool(from.prefix), true,
 		&numbers, 0, start(next), size(next), &nextSize, start(out), size(out), &info)
 	return reported(status, nextSize, &info)
 }
@@ -141,7 +151,7 @@ func callMatching(log []byte, evidence Evidence, out []byte) reply {
 	var info C.struct_ima_verify_info
 	quote := evidence.quote
 	key, signature, nonceHex, require := quote.parts()
-	return reported(C.ima_verify_raw_matching(start(log), size(log), C.uint32_t(evidence.by),
+	return reported(C.ima_verify_raw_matching(start(log), size(log), C.bool(evidence.hcrtm), C.bool(evidence.oldKernel), C.uint32_t(evidence.by),
 		start(evidence.expected), size(evidence.expected), start(evidence.list), size(evidence.list),
 		start(quote.Message), size(quote.Message), start(key), size(key), start(signature), size(signature),
 		start(quote.Nonce), size(quote.Nonce), start(nonceHex), size(nonceHex), start(require), size(require),
@@ -152,8 +162,9 @@ func callBoot(log, before []byte, compares bool, evidence Evidence, out []byte) 
 	var info C.struct_ima_verify_info
 	quote := evidence.quote
 	key, signature, nonceHex, require := quote.parts()
-	return reported(C.ima_verify_raw_boot(start(log), size(log), start(before), size(before), C.bool(compares), C.uint32_t(evidence.by),
-		start(evidence.expected), size(evidence.expected), start(evidence.list), size(evidence.list),
+	return reported(C.ima_verify_raw_boot(start(log), size(log), C.bool(evidence.hcrtm), C.bool(evidence.oldKernel),
+		start(before), size(before), C.bool(compares),
+		C.uint32_t(evidence.by), start(evidence.expected), size(evidence.expected), start(evidence.list), size(evidence.list),
 		start(quote.Message), size(quote.Message), start(key), size(key), start(signature), size(signature),
 		start(quote.Nonce), size(quote.Nonce), start(nonceHex), size(nonceHex), start(require), size(require),
 		C.bool(quote.AllowSHA1), C.bool(quote.SignatureChecked), true, start(out), size(out), &info), 0, &info)
@@ -165,9 +176,18 @@ func callExpected(printed, registers, out []byte) reply {
 		start(out), size(out), &info), 0, &info)
 }
 
-func callRegisters(data []byte, ofList bool, out []byte) reply {
+func callRegisters(data []byte, ofList, hcrtm bool, out []byte) reply {
 	var info C.struct_ima_verify_info
-	return reported(C.ima_verify_raw_registers(start(data), size(data), C.bool(ofList), true, start(out), size(out), &info), 0, &info)
+	return reported(C.ima_verify_raw_registers(start(data), size(data), C.bool(ofList), C.bool(hcrtm), true,
+		start(out), size(out), &info), 0, &info)
+}
+
+// callConvert also gives how many bytes of padding were left out.
+func callConvert(data []byte, conversion uint32, out []byte) (reply, uint64) {
+	var info C.struct_ima_verify_info
+	var padding C.size_t
+	status := C.ima_verify_raw_convert(start(data), size(data), C.uint32_t(conversion), &padding, start(out), size(out), &info)
+	return reported(status, 0, &info), uint64(padding)
 }
 
 func callKey(area []byte, isEndorsement bool, out []byte) reply {

@@ -47,7 +47,7 @@ func TestEventsOfTheSample(t *testing.T) {
 	found := must(drained(&events.Scanner))
 	text, flag := "", uint8(0)
 	// (the first event of the file is after the header of 65 bytes)
-	equal(t, found[0], Event{1, 0, "EV_S_CRTM_VERSION", 8, PerBank[Hex]{"sha256": bootLog[79:111]}, bootLog[115:117],
+	equal(t, found[0], Event{1, 0, "platform-code", "EV_S_CRTM_VERSION", 8, PerBank[Hex]{"sha256": bootLog[79:111]}, bootLog[115:117],
 		PerBank[Part]{"sha256": PartData}, "", Content{Text: &text}, found[0].JSON})
 	// (the state of Secure Boot, as tpm2_eventlog prints it)
 	equal(t, *found[3].Content.Variable, Variable{GUID: "8be4df61-93ca-11d2-aa0d-00e098032b8c", Name: "SecureBoot", Value: Hex{0}, Flag: &flag})

@@ -89,6 +89,6 @@ func TestEntriesOfNoKnownFileAreGiven(t *testing.T) {
 	checkRefused(t, KindArgument, 0)(Verify(bootLog, bootList, bootTPM, NothingRequired, known))
 	for _, option := range []Option{Prefix(), Resume(nil)} {
 		_, err := Verify(bootLog, bootList, bootTPM, "sha256:0-10", option)
-		equal(t, err.Error(), "only a session takes Prefix and Resume")
+		equal(t, err.Error(), "the call does not take this option")
 	}
 }

@@ -63,10 +63,11 @@ const (
 type BootAggregate string
 
 const (
-	BootAggregateGood    BootAggregate = "good"    // it is the boot aggregate of these PCRs
-	BootAggregateWrong   BootAggregate = "wrong"   // it is a boot aggregate, of other values
-	BootAggregateNoBank  BootAggregate = "nobank"  // it is one of a bank that the log lacks
-	BootAggregateMissing BootAggregate = "missing" // the list is empty, or its first entry is something else
+	BootAggregateGood      BootAggregate = "good"       // it is the boot aggregate of these PCRs
+	BootAggregateOldKernel BootAggregate = "old_kernel" // it is that of PCRs 0 to 7, as OldKernel takes it
+	BootAggregateWrong     BootAggregate = "wrong"      // it is a boot aggregate, of other values
+	BootAggregateNoBank    BootAggregate = "nobank"     // it is one of a bank that the log lacks
+	BootAggregateMissing   BootAggregate = "missing"    // the list is empty, or its first entry is something else
 )
 
 // State says how a PCR compares with its expected value.

@@ -16,9 +16,11 @@ type Session struct {
 
 // settings are what options ask for, and the state from which the list continues.
 type settings struct {
-	known  knownFiles
-	prefix bool
-	state  []byte
+	known     knownFiles
+	hcrtm     bool
+	oldKernel bool
+	prefix    bool
+	state     []byte
 }
 
 // knownFiles are the texts of Known, one after another, and whether entries are looked up in them.
@@ -27,7 +29,8 @@ type knownFiles struct {
 	text    []byte
 }
 
-// Option is Known, which Verify, Replay, Attest and sessions take, or Prefix or Resume, which only sessions take.
+// Option is Known, which Verify, Replay, Attest and sessions take; or HCRTM, which Verify, Attest, Locate, Registers and sessions take; or
+// OldKernel, which Verify, Attest and sessions take; or Prefix or Resume, which only sessions take.
 type Option func(s *settings)
 
 // Known has each entry but the boot aggregate be of a known file: one whose digest these texts have, as sha256sum, sha384sum and sha512sum
@@ -45,6 +48,18 @@ func Known(texts ...[]byte) Option {
 			}
 		}
 	}
+}
+
+// HCRTM has an event EV_EFI_HCRTM_EVENT of the log in PCR 0 tell that PCR 0 began at 4, if no event tells a locality (TPM 2.0 Library,
+// part 1, 34.3).
+func HCRTM() Option {
+	return func(s *settings) { s.hcrtm = true }
+}
+
+// OldKernel has a boot aggregate over PCRs 0 to 7 be taken, as kernels before 5.8 make it: BootAggregate is then BootAggregateOldKernel.
+// It counts where PCRs are required; with NothingRequired none is taken.
+func OldKernel() Option {
+	return func(s *settings) { s.oldKernel = true }
 }
 
 // Prefix has the verdict be on the confirmed part of the list, if there is one: the list's first entries, as few as make all
@@ -68,13 +83,13 @@ func settingsOf(options []Option) settings {
 	return s
 }
 
-// knownIn are the known files of options that have nothing else.
-func knownIn(options []Option) (knownFiles, error) {
+// settingsIn are what options ask for of a call that is of no session, and may take Known, HCRTM or OldKernel.
+func settingsIn(options []Option, takesKnown, takesHCRTM, takesOldKernel bool) (settings, error) {
 	s := settingsOf(options)
-	if s.prefix || s.state != nil {
-		return knownFiles{}, errors.New("only a session takes Prefix and Resume")
+	if s.prefix || s.state != nil || (s.known.checked && !takesKnown) || (s.hcrtm && !takesHCRTM) || (s.oldKernel && !takesOldKernel) {
+		return settings{}, errors.New("the call does not take this option")
 	}
-	return s.known, nil
+	return s, nil
 }
 
 // NewSession gives a session on a list, of which nothing is known unless it is resumed. The arguments are as in Verify; log and
@@ -95,7 +110,7 @@ func NewQuoteSession(log []byte, options ...Option) *Session {
 // session is as it was before: give these bytes again.
 func (s *Session) More(data []byte) (Verdict, error) {
 	verdict, next, err := resultAndNext[Verdict](make([]byte, checkpointCapacity), func(next, out []byte) reply {
-		return callMore(s.log, s.settings.state, data, s.expected, []byte(s.require), s.settings.known, s.settings.prefix, next, out)
+		return callMore(s.log, data, s.expected, []byte(s.require), s.settings, next, out)
 	})
 	if verdict.Matches {
 		s.settings.state = next
@@ -119,7 +134,7 @@ func (s *Session) Attest(data []byte, quote Quote) (Attestation, error) {
 // attestFrom gives the verdict by a quote on the list of a state followed by these bytes, and the next state.
 func attestFrom(log, data []byte, quote Quote, from settings) (Attestation, []byte, error) {
 	return resultAndNext[Attestation](make([]byte, checkpointCapacity), func(next, out []byte) reply {
-		return callAttest(log, from.state, data, quote, from.known, from.prefix, next, out)
+		return callAttest(log, data, quote, from, next, out)
 	})
 }
 

@@ -8,11 +8,12 @@ from typing import Dict, FrozenSet, List, NamedTuple, Optional, Sequence, Tuple
 
 from .program import REFUSED, STOPPED, Line, Output, Reply, ask
 from .reading import FILES, QUOTED_FILES, cause_of, read_file
+from .schema import GOOD_AGGREGATES
 from .verdict import NOTHING_EXPECTED
 
 LOG, LIST, EXPECTED = FILES
 QUOTE, SIGNATURE = QUOTED_FILES[2:]
-KEY, BEFORE, SIGNED, NO_LIST = "key", "before.log", "signed.txt", "no.list"
+KEY, BEFORE, QUOTED, SIGNED, NO_LIST = "key", "before.log", "quoted.txt", "signed.txt", "no.list"
 _OF_LIST = 10
 # Which errors are the list's, after log, quote or expected registers were taken (docs/errors.txt).
 _OF_BROKEN_LIST = ("list", "replay")
@@ -30,6 +31,8 @@ class Criteria:
     nonce: Optional[str]
     prefix: bool
     sha1: bool
+    hcrtm: bool
+    old_kernel: bool
     most: int
     seconds: float
 
@@ -45,6 +48,16 @@ class Criteria:
     @property
     def requirement(self) -> List[str]:
         return [] if self.require is None else [f"--require={self.require}"]
+
+    @property
+    def replayed(self) -> List[str]:
+        """The argument of each command that replays a log, if the event of an H-CRTM tells where PCR 0 began."""
+        return ["--hcrtm"] if self.hcrtm else []
+
+    @property
+    def bound(self) -> List[str]:
+        """The argument of each command that compares a boot aggregate where registers are required, if an older kernel's is taken."""
+        return ["--old-kernel"] if self.old_kernel else []
 
 
 class Input(NamedTuple):
@@ -164,7 +177,7 @@ class Boot:
     def reasons(self) -> List[str]:
         """Why the verdict is not match, by its report."""
         reasons = [f"{row.bank} PCR {row.number}: {row.state}" for row in self.registers if row.state != "match"] if self.report else []
-        if self.report.get("boot_aggregate", "good") != "good":
+        if self.report.get("boot_aggregate", "good") not in GOOD_AGGREGATES:
             reasons.append(f"The boot aggregate is {self.report['boot_aggregate']}.")
         if self.report.get("quote") == "differ":
             reasons.append("Log and list do not make the quoted PCRs.")
@@ -238,7 +251,8 @@ def boot_of(folder: Path, criteria: Criteria, work: Path) -> Boot:
 
 def _judged(criteria: Criteria, work: Path, known: int, unread: Sequence[str]) -> Judgement:
     """What the program judges, by so many known files. As in a run, nothing is no match; and neither is a boot of which a file is not read."""
-    words = [*criteria.requirement, *(f"--known=known{number}" for number in range(known)), *(["--prefix"] if criteria.prefix else [])]
+    words = [*criteria.requirement, *criteria.replayed, *criteria.bound, *(f"--known=known{number}" for number in range(known))]
+    words += ["--prefix"] if criteria.prefix else []
     command, names = ["verify"], [LOG, LIST, EXPECTED]
     if criteria.is_quoted:
         command, names = ["attest", *criteria.signed], [LOG, LIST, QUOTE, *([EXPECTED] if (work / EXPECTED).exists() else [])]
@@ -252,18 +266,29 @@ def _judged(criteria: Criteria, work: Path, known: int, unread: Sequence[str]) -
 
 def _confirming(boot: Boot, criteria: Criteria, work: Path) -> List[str]:
     """The arguments by which `events` and `boot` say what is confirmed: of expected registers that the program took, or of a quote that holds.
-    A quote that holds for a prefix of the list signs the values in the report's rows, if there are some."""
+    A quote that holds for a prefix of the list signs the values in the report's rows, if there are some: of these the required ones confirm."""
     if not criteria.is_quoted:
         return [f"--expected={EXPECTED}"] if boot.word in ("match", "differ") or boot.judgement.is_list_broken else []
     report = boot.proof.report
     if boot.proof.word != "match":
         return []
     if report.get("confirmed", report["entries"]) == report["entries"]:
-        return [f"--quote={QUOTE}", f"--list={LIST}", *criteria.signed, *criteria.requirement]
+        return [f"--quote={QUOTE}", f"--list={LIST}", *criteria.signed, *criteria.bound, *criteria.requirement]
     if report.get("expected") != "confirmed":
         return []
-    (work / SIGNED).write_text("".join(f"{row['bank']} {row['register']} {row['expected']}\n" for row in report["registers"]))
+    required = _required(report["registers"], criteria, work)
+    if not required.is_whole:
+        boot.replies["expected"] = required
+        return []
+    (work / SIGNED).write_text("".join(f"{row['bank']} {row['register']} {row['value']}\n" for row in required.lines[0]["registers"]))
     return [f"--expected={SIGNED}"]
+
+
+def _required(rows: Sequence[Line], criteria: Criteria, work: Path) -> Reply:
+    """The registers of these rows that are required, by the program. The machine chose what else is quoted: it may be a bank that its firmware
+    does not extend."""
+    (work / QUOTED).write_text("".join(f"  {row['bank']}:\n    {row['register']:<2}: 0x{row['expected']}\n" for row in rows))
+    return ask([criteria.program, "expected", "--json", f"--registers={criteria.require}", "--", QUOTED], work, criteria.seconds, Output())
 
 
 def _confirm(boot: Boot, criteria: Criteria, work: Path) -> None:
@@ -281,11 +306,12 @@ def _confirm(boot: Boot, criteria: Criteria, work: Path) -> None:
     if boot.judgement.is_list_broken:
         listed = NO_LIST
         (work / NO_LIST).touch()
-        words = ("registers", "--", LOG) if criteria.is_quoted else ("verify", "--", LOG, NO_LIST, EXPECTED)
-        boot.alone = Judgement(asking(*words, statuses=(0, 1))).report
+        command, *names = ("registers", LOG) if criteria.is_quoted else ("verify", LOG, NO_LIST, EXPECTED)
+        boot.alone = Judgement(asking(command, *criteria.replayed, "--", *names, statuses=(0, 1))).report
     if not criteria.is_quoted or boot.report.get("expected") == "confirmed":
-        asking("locate", *criteria.requirement, "--", LOG, listed, EXPECTED, statuses=(0, 1))
+        asking("locate", *criteria.requirement, *criteria.replayed, "--", LOG, listed, EXPECTED, statuses=(0, 1))
     before = [] if criteria.before is None else [f"--before={BEFORE}"]
+    confirming += criteria.replayed
     asking("boot", *confirming, *before, "--", LOG, output=Output(criteria.most))
     asking("events", *confirming, "--", LOG, output=Output(criteria.most + 1))
     unknown = frozenset(boot.unknown)

@@ -36,6 +36,8 @@ or failed. docs/fleet.md has more."""
 
 MINUTE, HOUR, DAY = 60, 60 * 60, 24 * 60 * 60
 MOST_SECONDS = 36500 * DAY
+HCRTM = "if a log tells no locality, its event EV_EFI_HCRTM_EVENT tells that PCR 0 began at 4, as machines with an H-CRTM have it"
+OLD_KERNEL = "take a boot aggregate over PCRs 0 to 7, as kernels before 5.8 make it, where registers are required"
 _UNITS = {"": 1, "s": 1, "m": MINUTE, "h": HOUR, "d": DAY}
 
 
@@ -53,6 +55,8 @@ class Options:
     unquoted: bool
     max_age: Optional[int]
     known: List[str]
+    hcrtm: bool
+    old_kernel: bool
     again: Optional[List[str]]
     poll: bool
     whole: bool
@@ -125,6 +129,8 @@ def add_inputs(parser: argparse.ArgumentParser) -> None:
         "--known", metavar="FILE", action="append",
         help="what sha256sum printed of known files: an entry of no such file makes its machine differ; may be given several times",
     )
+    parser.add_argument("--hcrtm", action="store_true", help=HCRTM)
+    parser.add_argument("--old-kernel", action="store_true", help=OLD_KERNEL)
 
 
 def add_table_options(parser: argparse.ArgumentParser) -> None:
@@ -208,6 +214,8 @@ def fault_of(found: argparse.Namespace) -> Optional[str]:
         return "--keys is of quotes, and --unquoted takes none"
     if found.known and found.require == NONE:
         return f"--known needs required registers, and not --require {NONE}: no entry is confirmed without register 10"
+    if found.old_kernel and found.require == NONE:
+        return f"--old-kernel needs required registers, and not --require {NONE}"
     if found.whole and not found.poll:
         return "--whole is of --poll: any other run reads the whole lists"
     if found.poll and found.again is not None:

@@ -11,7 +11,7 @@ from typing import Dict, Iterable, Iterator, List, NamedTuple, Optional, Sequenc
 from .opening import BadVerdicts, open_snapshot
 from .plot import Bar, bars_of
 from .rendering import text_of_bytes, time_span
-from .schema import VERDICTS
+from .schema import GOOD_AGGREGATES, VERDICTS
 
 _SECONDS = 60
 _MOST_CHANGES = 500
@@ -245,7 +245,7 @@ def _problems(connection: sqlite3.Connection) -> List[Problem]:
 
 def _facts(aggregate: Optional[str], quote: Optional[str], extends: Optional[str]) -> List[str]:
     """What a report says besides its registers: what all machines share, and after a colon what is this one's."""
-    facts = [f"boot aggregate {aggregate}"] if aggregate not in (None, "good") else []
+    facts = [f"boot aggregate {aggregate}"] if aggregate not in (None, *GOOD_AGGREGATES) else []
     if quote == "differ":
         facts.append("log and list do not make the quoted PCRs")
     for row in json.loads(extends or "[]"):

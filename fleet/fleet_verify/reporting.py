@@ -9,8 +9,9 @@ from typing import Any, NamedTuple, Optional, Sequence, Tuple
 
 from . import __version__
 from .boot import Boot, Criteria, boot_of, covered
+from .certificates import with_names
 from .ending import SIGNALS
-from .options import Once, positive
+from .options import HCRTM, OLD_KERNEL, Once, positive
 from .program import STOPPED, Line, NoProgram, program_of
 from .reading import cause_of, now
 from .rendering import render, write_page
@@ -50,7 +51,7 @@ class Booted(NamedTuple):
 class Difference(NamedTuple):
     """A line on what differs from an earlier boot."""
 
-    register: int
+    register: str
     what: str
     digest: str
     claimed: Any
@@ -59,18 +60,38 @@ class Difference(NamedTuple):
 def booted(line: Line) -> Booted:
     """A line of `ima-agent boot`, of which the first member says what it is about."""
     what, value = next(iter(line.items()))
+    if what == "claimed":
+        return _claim(value)
     event = value if isinstance(value, int) else line.get("event")
     title = what.replace("_", " ")
     if what == "image":
         return Booted(title, line.get("digests"), _image(line.get("claimed")), event)
     if what == "command":
         text = line.get("text", line.get("text_hex"))
-        return Booted(f"{title}, PCR {line['register']}", text if value != _UNKNOWN else None, line.get("claimed"), event)
+        return Booted(f"{title}, PCR {_register(line)}", text if value != _UNKNOWN else None, line.get("claimed"), event)
     if what == "boot_variable" and value != _UNKNOWN:
         return Booted(title, *_variable(line["content"]), event)
     if what == "ima_policy":
         return Booted(title, None, None if value == _UNKNOWN else value, event)
     return Booted(title, None if value == _UNKNOWN else value, None, event)
+
+
+def _claim(claim: Any) -> Booted:
+    """What an event claims where nothing confirms anything; of the first line, that it is so."""
+    if not isinstance(claim, dict):
+        return Booted("all of this", None, "confirmed by nothing")
+    what, value = list(claim.items())[-1]
+    title = what.replace("_", " ")
+    if what == "image":
+        value = {**claim.get("digests", {}), **_image(value)}
+    if what == "command":
+        title = f"{title}, PCR {_register(claim)}"
+    return Booted(title, None, with_names(value) if isinstance(value, dict) else value, claim.get("event"))
+
+
+def _register(line: Line) -> str:
+    """A PCR with its name, if it has one."""
+    return f"{line['register']} ({line['register_name']})" if "register_name" in line else str(line["register"])
 
 
 def _image(claimed: Any) -> Any:
@@ -95,9 +116,9 @@ def difference(line: Line) -> Difference:
             "all": "no difference", _UNKNOWN: "unknown: no value confirms the PCR", 0: f"the logs differ at the first event{where}",
             1: f"the first event is the same{where}",
         }
-        return Difference(line["register"], told.get(count, f"the first {count} events are the same{where}"), "", None)
+        return Difference(_register(line), told.get(count, f"the first {count} events are the same{where}"), "", None)
     when = "now" if "now" in line else "before"
-    return Difference(line["register"], f"{when}: event {line[when]}", line.get("digest", ""), line.get("claimed"))
+    return Difference(_register(line), f"{when}: event {line[when]}", line.get("digest", ""), line.get("claimed"))
 
 
 def page_of(boot: Boot, criteria: Criteria, title: str) -> bytes:
@@ -107,7 +128,7 @@ def page_of(boot: Boot, criteria: Criteria, title: str) -> bytes:
         "report.html", boot=boot, criteria=criteria, title=title, made=now(), version=__version__,
         booted=[booted(line) for line in lines if not ("register" in line and "command" not in line)],
         differences=[difference(line) for line in lines if "register" in line and "command" not in line],
-        unknown=frozenset(boot.unknown), reasons=boot.reasons, covered=covered,
+        unknown=frozenset(boot.unknown), reasons=boot.reasons, covered=covered, register=_register, with_names=with_names,
     )
 
 
@@ -119,6 +140,8 @@ def options_of(words: Sequence[str]) -> argparse.Namespace:
     add("--require", metavar="SELECTION", action=Once, help=f"what must be quoted or expected (default: sha256:0-10); {NONE} if it may be anything")
     add("--known", metavar="FILE", action="append", default=[], help="what sha256sum printed of known files; may be given several times")
     add("--prefix", action="store_true", help="judge the shortest prefix of the list that the registers confirm")
+    add("--hcrtm", action="store_true", help=HCRTM)
+    add("--old-kernel", action="store_true", help=OLD_KERNEL)
     add("--before", metavar="OLD_LOG", action=Once, help="the log of an earlier boot: what differs is shown")
     add("--key", metavar="KEY", action=Once, help="the key of the machine's TPM, NAME.pub or its PEM, with --nonce: judge by the quote")
     add("--nonce", metavar="HEX", action=Once, help="the nonce that was given out for the quote, with --key")
@@ -133,6 +156,8 @@ def options_of(words: Sequence[str]) -> argparse.Namespace:
         parser.error("--key and --nonce go together: a quote is judged by both")
     if options.sha1 and options.key is None:
         parser.error("--sha1 is of a quote, which needs --key and --nonce")
+    if options.old_kernel and options.require == NONE:
+        parser.error(f"--old-kernel needs required registers, and not --require {NONE}")
     return options
 
 
@@ -142,7 +167,7 @@ def criteria_of(options: argparse.Namespace) -> Criteria:
     require = options.require or "sha256:0-10"
     return Criteria(
         str(program), None if require == NONE else require, options.known, options.before, options.key,
-        options.nonce, options.prefix, options.sha1, options.most, options.seconds,
+        options.nonce, options.prefix, options.sha1, options.hcrtm, options.old_kernel, options.most, options.seconds,
     )
 
 

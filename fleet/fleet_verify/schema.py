@@ -1,17 +1,19 @@
 """The form of a table of verdicts: its tables and views, in SQLite."""
 
 VERDICTS = ("match", "differ", "refused", "unreadable", "failed")
+# What a report says of a boot aggregate with which a verdict may be match.
+GOOD_AGGREGATES = ("good", "old_kernel")
 
 # These mark a file as a table of verdicts, and say which form its tables have: a file whose schema differs by a letter is refused, and so any
 # change below, be it of a comment, has another form.
 APPLICATION = 0x494D4156
-FORM = 9
+FORM = 10
 
 # What of a machine's row stays as it is while a poll finds the same, and what each verdict writes.
 FOUND = (
-    "verdict", "cause", "required", "known_sha256", "events", "locality", "entries", "boot_aggregate", "unknown", "first_unknown",
-    "log", "list", "expected", "quote", "signature", "log_sha256", "expected_sha256", "signer", "resets", "restarts", "interface_version",
-    "report", "boot",
+    "verdict", "cause", "required", "hcrtm", "old_kernel", "known_sha256", "events", "locality", "entries", "boot_aggregate", "unknown",
+    "first_unknown", "log", "list", "expected", "quote", "signature", "log_sha256", "expected_sha256", "signer", "resets", "restarts",
+    "interface_version", "report", "boot",
 )
 GIVEN = (
     "poll", "time", "worker", "list_from", "list_sha256", "quote_sha256", "signature_sha256", "nonce", "quote_age", "clock",
@@ -33,6 +35,8 @@ CREATE TABLE found (
     verdict TEXT NOT NULL CHECK (verdict IN {VERDICTS}),
     cause TEXT, -- the line of a refusal, or why there is no verdict
     required TEXT NOT NULL, -- as `--require` named it
+    hcrtm INTEGER NOT NULL, -- 1 with `--hcrtm`, else 0
+    old_kernel INTEGER NOT NULL, -- 1 with `--old-kernel`, else 0
     known_sha256 TEXT, -- of the texts of `--known`, one after another; NULL without
     events INTEGER, locality INTEGER, entries INTEGER, boot_aggregate TEXT, -- what the report says
     unknown INTEGER, first_unknown INTEGER, -- how many entries are of no known file, and the number of the first
@@ -54,7 +58,7 @@ CREATE TABLE given (
     clock TEXT -- of a quote, as the report has it
 );
 CREATE VIEW verdicts AS SELECT -- a row for each machine; its columns are those of `found` and `given`
-    machine, verdict, cause, required, known_sha256, unknown, first_unknown, events, locality, entries, boot_aggregate,
+    machine, verdict, cause, required, hcrtm, old_kernel, known_sha256, unknown, first_unknown, events, locality, entries, boot_aggregate,
     CASE WHEN clock IS NULL THEN report ELSE replace(report, '{NO_CLOCK}', '"clock":' || clock) END AS report,
     log, list, expected, quote, signature, log_sha256, list_sha256, expected_sha256, quote_sha256, signature_sha256, list_from,
     signer, resets, restarts, nonce, quote_age, interface_version, worker, time, poll
@@ -86,8 +90,9 @@ CREATE TABLE changes ( -- by polls
     time TEXT NOT NULL
 );
 CREATE TABLE retired ( -- the last rows of machines that left or moved, and since when; its other columns are those of `verdicts`
-    retired, machine, verdict, cause, required, known_sha256, unknown, first_unknown, events, locality, entries, boot_aggregate, report,
-    log, list, expected, quote, signature, log_sha256, list_sha256, expected_sha256, quote_sha256, signature_sha256, list_from,
+    retired, machine, verdict, cause, required, hcrtm, old_kernel, known_sha256, unknown, first_unknown, events, locality, entries,
+    boot_aggregate, report, log, list, expected, quote, signature, log_sha256, list_sha256, expected_sha256, quote_sha256, signature_sha256,
+    list_from,
     signer, resets, restarts, nonce, quote_age, interface_version, worker, time, poll
 );
 PRAGMA application_id = {APPLICATION};

@@ -56,6 +56,8 @@ class Asked:
         deadline: In how many seconds its files are read.
         known: By which name the workers keep the text of known files, if there are some.
         max_age: How many seconds old its files may be, if that is limited. (The age of a quote is judged where its nonce is taken.)
+        hcrtm: Whether the event of an H-CRTM tells that PCR 0 began at 4.
+        old_kernel: Whether a boot aggregate over PCRs 0 to 7 is taken.
     """
 
     require: str
@@ -64,6 +66,13 @@ class Asked:
     deadline: float
     known: Optional[str] = None
     max_age: Optional[float] = None
+    hcrtm: bool = False
+    old_kernel: bool = False
+
+    @property
+    def on_boot(self) -> Fields:
+        """What is asked of a machine's boot, as the library's package takes it."""
+        return {"hcrtm": self.hcrtm, "old_kernel": self.old_kernel}
 
 
 @dataclass(frozen=True)
@@ -106,7 +115,7 @@ def require_fitness(require: str, is_poll: bool, known: Optional[bytes] = None, 
     import ima_verify
     from ima_verify import Kind
 
-    if not hasattr(ima_verify, "Pcr"):
+    if not hasattr(ima_verify, "convert_log"):
         raise ImportError("the package ima_verify is of an earlier version")
     if is_quoted:
         require_quotes(require)
@@ -178,7 +187,7 @@ def judge_registers(inputs: Inputs, checkpoint: Optional[bytes], asked: Asked, k
 
     log, measurements, expected = inputs
     assert log is not None and expected is not None
-    given = {"require": required(asked.require), **known_texts(known)}
+    given = {"require": required(asked.require), **asked.on_boot, **known_texts(known)}
     if not asked.is_poll:
         assert measurements is not None
         verdict: Any = ima_verify.verify(log, measurements, expected, **given)
@@ -238,14 +247,14 @@ def judge_attested(inputs: Inputs, checkpoint: Optional[bytes], key: bytes, nonc
 
     log, measurements, message, signature = inputs
     assert log is not None and message is not None and signature is not None
-    quoted, require = (key, message, signature), asked.require
+    quoted, require, options = (key, message, signature), asked.require, {**asked.on_boot, **known_texts(known)}
     if asked.is_poll:
-        session = ima_verify.Session.by_quotes(log, state=checkpoint, **known_texts(known))
+        session = ima_verify.Session.by_quotes(log, state=checkpoint, **options)
         found = session.attest(*quoted, measurements or b"", nonce_hex=nonce, require=require)
         fields = reached(session, found)
     else:
         assert measurements is not None
-        found, fields = ima_verify.attest(*quoted, log, measurements, nonce_hex=nonce, require=require, **known_texts(known)), {}
+        found, fields = ima_verify.attest(*quoted, log, measurements, nonce_hex=nonce, require=require, **options), {}
     return {**verdict_fields(found), **fields, "resets": found.clock.resets, "restarts": found.clock.restarts}
 
 

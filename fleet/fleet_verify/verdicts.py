@@ -93,8 +93,12 @@ class Verdicts:
     """An open table of verdicts, all with the registers `required`, by the known files with this digest and by quotes, if there are some. Only
     the process that has it open writes it, a transaction at a time. `poll` is the number of the poll that it is open for, once that has begun."""
 
-    def __init__(self, path: str, required: str, known_sha256: Optional[str] = None, quoting: Optional[Quoting] = None):
+    def __init__(
+        self, path: str, required: str, known_sha256: Optional[str] = None, quoting: Optional[Quoting] = None, hcrtm: bool = False,
+        old_kernel: bool = False,
+    ):
         self.required, self.known_sha256, self.quoting = required, known_sha256, quoting
+        self.hcrtm, self.old_kernel = hcrtm, old_kernel
         self.poll: Optional[int] = None
         self.connection = open_table(path)
 
@@ -125,14 +129,18 @@ class Verdicts:
         and given with the same requirement, all by polls or none. Without polls verdicts stand, so all must be by the same known files, too."""
         places = {machine.name: _places(machine) for machine in machines}
         verdicts = {}
-        rows = self.connection.execute(f"SELECT machine, verdict, required, known_sha256, poll, {', '.join(_PLACES)} FROM verdicts")
-        for name, verdict, required, known, poll, *recorded in rows:
+        columns = ", ".join(("machine", "verdict", "required", "hcrtm", "old_kernel", "known_sha256", "poll", *_PLACES))
+        rows = self.connection.execute(f"SELECT {columns} FROM verdicts")
+        for name, verdict, required, hcrtm, old_kernel, known, poll, *recorded in rows:
             if name in leaving:
                 continue
             if (poll is not None) != is_poll:
                 raise BadVerdicts(f"its verdicts were given {'without' if is_poll else 'with'} --poll: take another TABLE")
             if required != self.required:
                 raise BadVerdicts(f"its verdict of {name!r} was given with --require {required}: take another TABLE")
+            for option, was, is_now in (("--hcrtm", hcrtm, self.hcrtm), ("--old-kernel", old_kernel, self.old_kernel)):
+                if was != is_now:
+                    raise BadVerdicts(f"its verdict of {name!r} was given {'without' if is_now else 'with'} {option}: take another TABLE")
             if not is_poll and known != self.known_sha256:
                 raise BadVerdicts(f"its verdict of {name!r} was given with other files of --known, or without: take another TABLE")
             if name not in places:
@@ -196,8 +204,8 @@ class Verdicts:
         """The values of a machine's columns that are not NULL, by their names."""
         parts = QUOTED_PARTS if machine.is_quoted else PARTS
         row: Fields = {
-            **answer, **dict(zip(parts, machine.paths)), "machine": machine.name, "required": self.required,
-            "known_sha256": self.known_sha256, "poll": self.poll,
+            **answer, **dict(zip(parts, machine.paths)), "machine": machine.name, "required": self.required, "hcrtm": self.hcrtm,
+            "old_kernel": self.old_kernel, "known_sha256": self.known_sha256, "poll": self.poll,
             "boot": None if self.poll is None else _boot(answer),
         }
         clock = _CLOCK.search(row["report"]) if row.get("nonce") and row.get("report") else None

@@ -115,7 +115,8 @@ def opened(options: Options, known: Optional[Known]) -> Verdicts:
             os.scandir(options.keys).close()
         quoting = Quoting(options.keys, options.max_age or math.inf)
     with refusing(options.table):
-        return Verdicts(options.table, options.require, None if known is None else known.sha256, quoting)
+        digest = None if known is None else known.sha256
+        return Verdicts(options.table, options.require, digest, quoting, options.hcrtm, options.old_kernel)
 
 
 def recorded_in(table: Verdicts, machines: Sequence[Machine], options: Options, summary: Summary) -> Dict[str, str]:

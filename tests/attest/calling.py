@@ -56,6 +56,8 @@ class Evidence:
     known: tuple = ()
     prefix: bool = False
     sha1: bool = False
+    hcrtm: bool = False
+    old_kernel: bool = False
     json: bool = False
 
     def options(self):
@@ -65,7 +67,7 @@ class Evidence:
             ["--known", str(name)] for name in self.known]
 
     def words(self):
-        flags = [f"--{name}" for name in ("prefix", "sha1", "json") if getattr(self, name)]
+        flags = [f"--{name.replace('_', '-')}" for name in ("prefix", "sha1", "hcrtm", "old_kernel", "json") if getattr(self, name)]
         return ["ima-attest", *sum(self.options(), []), *flags, "--", *map(str, filter(None, (self.log, self.list, self.expected)))]
 
 

@@ -269,6 +269,9 @@ class Enrolled(EnrollTests):
             self.check_challenged(f"EK.pub with {title}", self.challenge(EK_pub=framed(changed)))
             self.check_quiet(f"EK.pub with {title}: the answer is right", self.answer(self.opened(f"EK.pub with {title}")))
             self.forget()
+        self.check_challenged("EK.pub without its size", self.challenge(EK_pub=area))
+        self.check_quiet("EK.pub without its size: the answer is right", self.answer(self.opened("EK.pub without its size")))
+        self.forget()
 
     def test_certificates(self):
         """Certificates that are not the maker's, and the files of authorities."""

@@ -4,7 +4,8 @@ import os
 from dataclasses import replace
 
 from calling import ENTRIES, LOG, LOW, OF_QUOTE, SECOND_KERNEL, Evidence, OwnKeyTests, executable, moved, values_after
-from reference.log import EV_NO_ACTION
+from reference.log import EV_NO_ACTION, Event, read_log
+from reference.log_forms import EV_EFI_HCRTM_EVENT, told_log
 from reference.measurement_list import BOOT_AGGREGATE, IMA_NG, Entry, entry_of, list_spelling
 from reference.registers import SHA1, SHA256, SHA384, SHA512
 
@@ -86,6 +87,31 @@ class OddLists(OwnKeyTests):
             log, rest = moved(entries, 2, log=log)
             forged = replace(honest, log=self.put("forged.log", log), list=self.put("rest.list", rest))
             self.check_differ(f"a log of {name} alone with entries of the list", self.attest(forged), EXTENDS_TEN, OF_QUOTE)
+
+    def test_start_after_hcrtm(self):
+        """Where an H-CRTM's event tells that PCR 0 began at 4, that counts only if it is asked for; a terminal is told so."""
+        event = Event(0, EV_EFI_HCRTM_EVENT, {SHA256.identifier: SHA256.hash(b"HCRTM")}, b"HCRTM")
+        log = LOG._replace(events=[event, *(event for event in LOG.events if event.is_extended)]).spelling()
+        started = read_log(told_log(log))
+        aggregate = entry_of(IMA_NG, SHA256, started.registers().boot_aggregate(SHA256), BOOT_AGGREGATE)
+        quote = self.state("of-hcrtm", values_after([aggregate], started))
+        given = Evidence(quote=quote, log=self.put("hcrtm.log", log), list=self.put("hcrtm.list", list_spelling([aggregate])))
+        self.check_differ("a machine that an H-CRTM started", self.attest(given), "boot_aggregate wrong")
+        self.check_match("the same, by its event", self.attest(given, hcrtm=True))
+        status, said = self.said_on_terminal(given)
+        self.check("a terminal is told of the option", (status, "add --hcrtm" in said or said), (1, True))
+
+    def test_older_kernel(self):
+        """The boot aggregate of a kernel before 5.8, over PCRs 0 to 7, is taken only if it is asked for; a terminal is told so."""
+        aggregate = entry_of(IMA_NG, SHA256, LOG.registers().old_boot_aggregate(SHA256), BOOT_AGGREGATE)
+        quote = self.state("of-older", values_after([aggregate]))
+        given = Evidence(quote=quote, list=self.put("older.list", list_spelling([aggregate])))
+        self.check_differ("an older kernel", self.attest(given), "boot_aggregate wrong", OF_QUOTE)
+        ended = self.attest(given, old_kernel=True)
+        found = ended.status, "boot_aggregate old_kernel" in ended.output, ended.last
+        self.check("the same, if it is asked for", found, (0, True, "verdict match"))
+        status, said = self.said_on_terminal(given)
+        self.check("a terminal is told of that option", (status, "--old-kernel" in said or said), (1, True))
 
     def test_entries_of_others(self):
         """A list has entries of other registers than 10, or of 10 whose names would have one think so."""

@@ -5,6 +5,7 @@ import shutil
 import textwrap
 from base64 import b64decode
 from dataclasses import replace
+from itertools import product
 
 from calling import (
     EXPECTED,
@@ -30,6 +31,7 @@ from reference.registers import SHA256, SHA384, SHA512
 
 LOG, LIST = GOOD.log.read_bytes(), GOOD.list.read_bytes()
 AREAS = {path.stem: path.read_bytes() for path in ROOT.joinpath("samples/keys").glob("*.pub")}
+SIGNED = ROOT / "samples/signed"
 RSA = ("-algorithm", "RSA", "-pkeyopt", "rsa_keygen_bits:2048")
 RSASSA, RSAPSS = "rsassa", "rsapss"
 SCHEMES = {RSASSA: 0x0014, RSAPSS: 0x0016}
@@ -180,6 +182,12 @@ class Samples(AttestTests):
         """A signature in another form, of another message, or by another key."""
         signature, message, tpmt = (path.read_bytes() for path in (GOOD.signature, GOOD.quote, QUOTED / "quote.tpmt"))
         self.check_match("a signature as without `-f plain`", self.attest(signature=QUOTED / "quote.tpmt"))
+        for name in ("rsassa", "rsa3072", "rsapss", "p256", "p384"):
+            key, quote = SIGNED / f"{name}.pub", SIGNED / f"{name}.msg"
+            bare = self.put("bare.pub", key.read_bytes()[2:])
+            for given, form in product((key, key.with_suffix(".pem"), bare), ("tpmt", "sig")):
+                ended = self.attest(key=given, quote=quote, signature=SIGNED / f"{name}.{form}")
+                self.check_match(f"a signature by {name}, with {given.name}: {form}", ended)
         for title, changed, *numbers in (
             ("that is empty", b"", *NO_SIGNATURE), ("that is cut", signature[:-1], *NO_SIGNATURE), ("with a bit turned", turned(signature), NOT_SIGNED),
             ("of zeros", bytes(256), NOT_SIGNED), ("that is the message", message, *NO_SIGNATURE),

@@ -30,7 +30,7 @@ struct given {
     enum ima_verify_purpose purpose;
     struct ima_verify_position position;
     struct ima_verify_error error;
-    bool checks_known, prefix, allow_sha1, signature_checked, is_absent;
+    bool checks_known, prefix, allow_sha1, signature_checked, hcrtm, old_kernel, is_absent;
 };
 static struct given sample;
 static const struct ima_verify_bytes none = {NULL, 0};
@@ -77,6 +77,8 @@ static void change(struct given *given, char *word) {
     else if (strcmp(word, "prefix") == 0) given->prefix = true;
     else if (strcmp(word, "absent") == 0) given->is_absent = true;
     else if (strcmp(word, "sha1") == 0) given->allow_sha1 = true;
+    else if (strcmp(word, "hcrtm") == 0) given->hcrtm = true, given->origin = IMA_VERIFY_OF_HCRTM_LOG;
+    else if (strcmp(word, "older") == 0) given->old_kernel = true;
     else if (strcmp(word, "unsigned") == 0) given->signature_checked = false;
     else if (strcmp(word, "endorsement") == 0) given->purpose = IMA_VERIFY_ENDORSEMENT;
     else if (strcmp(word, "of_list") == 0) given->origin = IMA_VERIFY_OF_LIST;
@@ -131,13 +133,15 @@ static long passed, failed;
 
 static struct ima_verify_evidence evidence_of(const struct given *given) {
     return (struct ima_verify_evidence){.log = given->in[LOG], .list = given->in[LIST], .expected = given->in[EXPECTED],
-                                        .require = given->in[REQUIRE], .known = given->in[KNOWN], .checks_known = given->checks_known};
+                                        .require = given->in[REQUIRE], .known = given->in[KNOWN], .checks_known = given->checks_known,
+                                        .hcrtm = given->hcrtm, .old_kernel = given->old_kernel};
 }
 static struct ima_verify_quoted quoted_of(const struct given *given) {
     return (struct ima_verify_quoted){
         .log = given->in[LOG], .list = given->in[LIST], .message = given->in[MESSAGE], .key = given->in[KEY], .signature = given->in[SIGNATURE],
         .nonce = given->in[NONCE], .nonce_hex = given->in[NONCE_HEX], .require = given->in[REQUIRE], .allow_sha1 = given->allow_sha1,
-        .signature_checked = given->signature_checked, .known = given->in[KNOWN], .checks_known = given->checks_known};
+        .signature_checked = given->signature_checked, .known = given->in[KNOWN], .checks_known = given->checks_known,
+        .hcrtm = given->hcrtm, .old_kernel = given->old_kernel};
 }
 
 /* A set of numbers, of functions or of inputs. */
@@ -158,16 +162,16 @@ enum {
     F(ATTEST_MORE, "attest_more", QUOTED | ONE(STATE),                                                                      \
       ima_verify_attest_more(attested, in[STATE], given->prefix, form, summed, to_next, to))                          \
     F(READ_EXPECTED, "expected", ONE(PRINTED) | ONE(SELECTION), ima_verify_expected(in[PRINTED], in[SELECTION], form, to))  \
-    F(REGISTERS, "registers", ONE(LOG), ima_verify_registers(given->origin, in[given->origin ? LIST : LOG], form, to))      \
+    F(REGISTERS, "registers", ONE(LOG), ima_verify_registers(given->origin, in[of_list ? LIST : LOG], form, to))            \
     F(READ_KEY, "key", ONE(AREA), ima_verify_key(in[AREA], given->purpose, form, to))                                       \
     F(ERROR_TEXT, "error_text", 0, ima_verify_error_text(given->is_absent ? NULL : &given->error, to))                      \
-    F(BOOT, "boot", ONE(LOG), ima_verify_boot(in[LOG], before, NULL, NULL, form, to))                                       \
-    F(BOOT_BY_PCRS, "boot by PCRs", BY_PCRS, ima_verify_boot(in[LOG], before, &in[EXPECTED], NULL, form, to))               \
-    F(BOOT_BY_QUOTE, "boot by a quote", QUOTED, ima_verify_boot(in[LOG], before, NULL, &quoted, form, to))                  \
+    F(BOOT, "boot", ONE(LOG), ima_verify_boot(in[LOG], hcrtm, before, NULL, NULL, form, to))                                \
+    F(BOOT_BY_PCRS, "boot by PCRs", BY_PCRS, ima_verify_boot(in[LOG], hcrtm, before, &in[EXPECTED], NULL, form, to))        \
+    F(BOOT_BY_QUOTE, "boot by a quote", QUOTED, ima_verify_boot(in[LOG], hcrtm, before, NULL, &quoted, form, to))           \
     F(ENTRIES, "entries", ONE(LIST), ima_verify_entries(in[LIST], at, form, to))                                            \
-    F(EVENTS, "events", ONE(LOG), ima_verify_events(in[LOG], NULL, NULL, at, to))                                           \
-    F(EVENTS_BY_PCRS, "events by PCRs", BY_PCRS, ima_verify_events(in[LOG], &in[EXPECTED], NULL, at, to))                   \
-    F(EVENTS_BY_QUOTE, "events by a quote", QUOTED, ima_verify_events(in[LOG], NULL, &quoted, at, to))
+    F(EVENTS, "events", ONE(LOG), ima_verify_events(in[LOG], hcrtm, NULL, NULL, at, to))                                    \
+    F(EVENTS_BY_PCRS, "events by PCRs", BY_PCRS, ima_verify_events(in[LOG], hcrtm, &in[EXPECTED], NULL, at, to))            \
+    F(EVENTS_BY_QUOTE, "events by a quote", QUOTED, ima_verify_events(in[LOG], hcrtm, NULL, &quoted, at, to))
 #define NUMBER(number, name, inputs, call) number,
 #define ROW(number, name, inputs, call) {name, inputs, call_##number},
 #define CALL(number, name, inputs, call)                                                                                     \
@@ -175,7 +179,8 @@ enum {
         struct ima_verify_evidence compared = evidence_of(given), *evidence = given->is_absent ? NULL : &compared;           \
         struct ima_verify_quoted quoted = quoted_of(given), *attested = given->is_absent ? NULL : &quoted;                   \
         const struct ima_verify_bytes *in = given->in, *before = in[BEFORE].data ? &in[BEFORE] : NULL;                       \
-        return (void)form, (void)evidence, (void)attested, (void)before, call;                                               \
+        bool hcrtm = given->hcrtm, of_list = given->origin == IMA_VERIFY_OF_LIST;                                            \
+        return (void)form, (void)evidence, (void)attested, (void)before, (void)hcrtm, (void)of_list, call;                   \
     }
 
 enum { ALL_FUNCTIONS(NUMBER) FUNCTIONS };
@@ -275,7 +280,7 @@ static void check_inputs(int which) {
 }
 
 static void check_wrong_calls(void) {
-    volatile int no_form = 2;
+    volatile int no_form = 3;
     struct given given = sample;
     EACH(which, ALL) {
         check_inputs(which);
@@ -325,9 +330,9 @@ static void check_wrong_outputs(void) {
     EACH(which, PIECES) misused(which, ask(which, &sample, TEXT, SPACE), "no position");
     at = &position;
     prepare(&sample, SPACE);
-    misused(BOOT, ima_verify_boot(log, NULL, expected, &quoted, TEXT, to), "expected PCRs and a quote");
-    misused(BOOT, ima_verify_boot(log, &(struct ima_verify_bytes){NULL, 1}, NULL, NULL, TEXT, to), "an earlier boot at NULL");
-    misused(EVENTS, ima_verify_events(log, expected, &quoted, at, to), "expected PCRs and a quote");
+    misused(BOOT, ima_verify_boot(log, false, NULL, expected, &quoted, TEXT, to), "expected PCRs and a quote");
+    misused(BOOT, ima_verify_boot(log, false, &(struct ima_verify_bytes){NULL, 1}, NULL, NULL, TEXT, to), "an earlier boot at NULL");
+    misused(EVENTS, ima_verify_events(log, false, expected, &quoted, at, to), "expected PCRs and a quote");
 }
 
 /* A summary may be left out, be that of a newer header, or have less numbers. */
@@ -643,8 +648,8 @@ static void check_misused_raw(void) {
         size_t next_size = UNSET;
         prepare(&given, SPACE);
         result = (enum ima_verify_result)ima_verify_raw_attest(
-            IN(LOG), IN(STATE), IN(LIST), IN(MESSAGE), IN(KEY), IN(SIGNATURE), IN(NONCE), IN(NONCE_HEX), IN(REQUIRE), IN(KNOWN), false, false,
-            given.signature_checked, false, false, &summary.size, sizeof summary / 8, checkpoint, SPACE, &next_size, text, SPACE, &info);
+            IN(LOG), false, false, IN(STATE), IN(LIST), IN(MESSAGE), IN(KEY), IN(SIGNATURE), IN(NONCE), IN(NONCE_HEX), IN(REQUIRE), IN(KNOWN), false,
+            false, given.signature_checked, false, false, &summary.size, sizeof summary / 8, checkpoint, SPACE, &next_size, text, SPACE, &info);
         bool is_set = info.size == 0 && info.error_kind == IMA_VERIFY_NO_ERROR && info.error_number == 0 && info.error_place == NONE;
         check(result == IMA_VERIFY_MISUSED && is_set && next_size == 0 && is_left() && summary.verdict == UNSET, ATTEST, wrong[i]);
     }
@@ -675,21 +680,98 @@ static void check_boots(void) {
     enum { PCRS = ONE(BOOT_BY_PCRS), QUOTE = ONE(BOOT_BY_QUOTE) };
     static const char off[] = "secure_boot off\nfirmware_version {\"text\":\"\"}\nimage 10 sha256 7302", off_json[] = "{\"secure_boot\":\"off\"}\n";
     static const char unknown[] = "secure_boot unknown\nfirmware_version unknown\nimage unknown\n", unknown_json[] = "{\"secure_boot\":\"unknown\"}\n";
+    static const char claims[] = "claimed all\nclaimed 1 firmware_version {\"text\":\"\"}\nclaimed 4 secure_boot off\n", claims_json[] = "{\"claimed\":\"all\"}\n";
     static const char event[] = "\"measured\":{\"sha256\":\"data\"},\"content\":{\"text\":\"\"}}\n";
     static const char confirmed[] = "\"measured\":{\"sha256\":\"data\"},\"confirmed\":\"data\",\"content\":{\"text\":\"\"}}\n";
     gives(PCRS | QUOTE, "", DONE, off, off_json, NULL);
     check(!has_text("alike"), BOOT_BY_QUOTE, "no earlier boot");
-    gives(ONE(BOOT), "", DONE, unknown, unknown_json, NULL);
+    gives(ONE(BOOT), "", DONE, claims, claims_json, NULL);
     gives(PCRS, "expected=", DONE, unknown, unknown_json, NULL);
     gives(QUOTE, "unsigned", DIFFERS, unknown, unknown_json, NULL);
     gives(QUOTE, "list-95", DIFFERS, unknown, unknown_json, NULL);
-    gives(PCRS | QUOTE, "before@log", DONE, "\nregister 0 alike all\nregister 1 alike all\n", "{\"register\":0,\"alike\":\"all\"}\n", NULL);
-    gives(ONE(BOOT), "before@log", DONE, "\nregister 0 alike unknown\n", "{\"register\":0,\"alike\":\"unknown\"}\n", NULL);
+    gives(PCRS | QUOTE, "before@log", DONE, "\nregister 0 (platform-code) alike all\nregister 1 (",
+          "\"register_name\":\"platform-code\",\"alike\":\"all\"}\n", NULL);
+    gives(ONE(BOOT), "before@log", DONE, "\nregister 0 (platform-code) alike unknown\n", "\"alike\":\"unknown\"}\n", NULL);
     gives(ONE(EVENTS_BY_PCRS) | ONE(EVENTS_BY_QUOTE), "", DONE, confirmed, confirmed, NULL);
     gives(ONE(EVENTS), "", DONE, event, event, NULL);
     check(!has_text("confirmed"), EVENTS, "by nothing");
     gives(ONE(EVENTS_BY_QUOTE), "unsigned", DIFFERS, "", "\"confirmed\":\"none\"", NULL);
     check(!has_text("\"confirmed\":\"data\""), EVENTS_BY_QUOTE, "without a signature");
+}
+
+/* The event of an H-CRTM tells where PCR 0 began, if that is asked for: the answers are those to a log that tells it. */
+static void check_hcrtm(void) {
+    enum { REPLAYING = (COMPARING & ~ONE(REPLAY)) | ATTESTING | ONE(REGISTERS) | BOOTS };
+    EACH(which, REPLAYING) {
+        enum ima_verify_result of = ask_text(which, "log@told_log expected@told_pcrs");
+        struct ima_verify_bytes told = joined((struct ima_verify_bytes){text, out.size}, none);
+        check(ask_text(which, "log@hcrtm_log expected@told_pcrs hcrtm") == of && is_same(text, out.size, told), which, "an H-CRTM");
+        ask_text(which, "");
+        struct ima_verify_bytes plain = joined((struct ima_verify_bytes){text, out.size}, none);
+        check(ask_text(which, "hcrtm") <= DIFFERS && is_same(text, out.size, plain), which, "a log without the event");
+    }
+    gives(WHOLE, "log@hcrtm_log expected@told_pcrs hcrtm", DIFFERS, "\nsha256 0 match\n", "\"state\":\"match\"", NULL);
+    gives(WHOLE, "log@hcrtm_log expected@told_pcrs", DIFFERS, "\nsha256 0 differ ", "\"state\":\"differ\"", NULL);
+    gives(ONE(EVENTS_BY_PCRS), "log@hcrtm_log expected@told_pcrs hcrtm", DONE, "", "\"confirmed\":\"data\"", NULL);
+    gives(ONE(EVENTS_BY_PCRS), "log@hcrtm_log expected@told_pcrs", DONE, "", "\"confirmed\":\"none\"", NULL);
+    check(!has_text("\"confirmed\":\"data\""), EVENTS_BY_PCRS, "an H-CRTM that nobody asked for");
+}
+
+/* The boot aggregate of a kernel before 5.8 is taken, if that is asked for: by PCRs, where some are required, and by a quote. */
+static void check_old_kernel(void) {
+    enum { BY_A_BOOT = ONE(BOOT_BY_QUOTE) | ONE(EVENTS_BY_QUOTE) };
+    const char *older = "list@older_list expected@older_pcrs message@older_message require=sha256:0-10 older";
+    const char *plain = "list@older_list expected@older_pcrs message@older_message require=sha256:0-10";
+    gives(WHOLE | ATTESTING, older, DONE, "\nboot_aggregate old_kernel\n", "\"boot_aggregate\":\"old_kernel\"", NULL);
+    gives(WHOLE | ATTESTING, plain, DIFFERS, "\nboot_aggregate wrong\n", "\"boot_aggregate\":\"wrong\"", NULL);
+    EACH(which, BY_A_BOOT) {
+        check(ask_text(which, older) == DONE, which, "an older kernel");
+        check(ask_text(which, plain) == DIFFERS, which, "an older kernel that nobody asked for");
+    }
+    gives(WHOLE, "list@older_list expected@older_pcrs require=none older", DIFFERS, "\nboot_aggregate wrong\n", "\"boot_aggregate\":\"wrong\"", NULL);
+    EACH(which, WHOLE | ATTESTING) {
+        ask_text(which, "");
+        struct ima_verify_bytes wanted = joined((struct ima_verify_bytes){text, out.size}, none);
+        check(ask_text(which, "older") == DONE && is_same(text, out.size, wanted), which, "a newer kernel");
+    }
+}
+
+/* A conversion gives these bytes, and reports this padding; with too little capacity it writes nothing. */
+static void converts(enum ima_verify_conversion conversion, const char *from, const char *into, size_t wanted_padding) {
+    struct ima_verify_bytes wanted = kept(into);
+    for (size_t lack = 0; lack < 2; lack++) {
+        size_t padding = UNSET;
+        prepare(&sample, wanted.size - lack);
+        result = ima_verify_convert(kept(from), conversion, &padding, to);
+        check(out.size == wanted.size && is_error(&out, no_error) && is_filled(text, lack ? 0 : wanted.size), VERDICT, from);
+        check(lack ? result == IMA_VERIFY_TOO_SHORT : result == DONE && is_same(text, out.size, wanted) && padding == wanted_padding, VERDICT, from);
+    }
+    prepare(&sample, SPACE);
+    check((result = ima_verify_convert(kept(from), conversion, NULL, to)) == DONE && is_same(text, out.size, wanted), VERDICT, "no padding asked for");
+}
+static void refuses_to_convert(enum ima_verify_conversion conversion, struct ima_verify_bytes bytes, const char *line, struct ima_verify_error error) {
+    size_t padding = UNSET;
+    prepare(&sample, SPACE);
+    result = ima_verify_convert(bytes, conversion, &padding, to);
+    check(result == IMA_VERIFY_REFUSED && is_error(&out, error) && has_text(line) && padding == 0, VERDICT, line);
+    check(ima_verify_error_text(&error, to) == DONE && text[out.size - 1] == '.', VERDICT, line);
+}
+
+static void check_conversions(void) {
+    const enum ima_verify_conversion of_list = IMA_VERIFY_CONVERT_LIST, of_log = IMA_VERIFY_CONVERT_LOG;
+    volatile int none_of_these = 3;
+    converts(of_list, "ascii", "list", 0);
+    converts(of_log, "log", "log", 0);
+    converts(of_log, "padded_log", "log", 5);
+    converts(of_log, "sha1_log", "from_sha1_log", 0);
+    refuses_to_convert(of_list, kept("x"), "refused: text list fault 1 at line 1\n", (struct ima_verify_error){IMA_VERIFY_TEXT_LIST, 1, 1});
+    refuses_to_convert(of_list, turned(kept("ascii"), 4, 1), "refused: text list fault 3 at line 1\n", (struct ima_verify_error){IMA_VERIFY_TEXT_LIST, 3, 1});
+    refuses_to_convert(of_log, kept("x"), "refused: log form fault 1 at event 0\n", (struct ima_verify_error){IMA_VERIFY_LOG_FORM, 1, 0});
+    refuses_to_convert(of_log, kept("list"), "refused: log form fault 13\n", (struct ima_verify_error){IMA_VERIFY_LOG_FORM, 13, NONE});
+    prepare(&sample, SPACE);
+    misused(VERDICT, ima_verify_convert(sample.in[LOG], (enum ima_verify_conversion)none_of_these, NULL, to), "a conversion that is none");
+    misused(VERDICT, ima_verify_convert((struct ima_verify_bytes){NULL, 1}, of_log, NULL, to), "NULL to convert");
+    misused(VERDICT, ima_verify_convert(sample.in[LOG], of_log, NULL, NULL), "no output");
 }
 
 /* Lines one by one, and all at once; and there is nothing after the last. */
@@ -726,7 +808,8 @@ static void check_pieces(void) {
 static void *run(void *nothing) {
     static void (*const checks[])(void) = {
         check_wrong_calls, check_wrong_outputs, check_summaries, check_capacities, check_refusals, check_verdicts, check_known_prefix, check_quotes,
-        check_sessions, check_signatures, check_refused_signatures, check_misused_raw, check_keys, check_boots, check_pieces};
+        check_sessions, check_signatures, check_refused_signatures, check_misused_raw, check_keys, check_boots, check_hcrtm, check_old_kernel,
+        check_conversions, check_pieces};
     check(ima_verify_version() >= IMA_VERIFY_VERSION, VERDICT, "a version older than the header");
     for (size_t i = 0; i < COUNT(checks); i++) checks[i]();
     return nothing;

@@ -9,7 +9,7 @@ from reference import answer
 KNOWN = ROOT / "samples/known/SHA256SUMS"
 # What reads the variables that the examples use. The list of the last example has one more entry.
 NAMES = {"key": "AK.pub", "message": "quote.msg", "signature": "quote.sig", "log": FILES[0], "list": FILES[1], "expected": FILES[2],
-         "known": "known.txt", "grown": "grown"}
+         "known": "known.txt", "grown": "grown", "padded": "padded"}
 PYTHON = """from pathlib import Path
 import ima_verify
 {variables}
@@ -78,10 +78,10 @@ def program(language, examples, functions=""):
 def program_of(language):
     """The page's examples in a language, as one program."""
     examples = re.findall(rf"^```{language}\n(.*?)^```", (ROOT / "docs/library.md").read_text(), re.MULTILINE | re.DOTALL)
-    assert len(examples) == 4 and all(example.count("\n") <= 5 for example in examples), examples
+    assert len(examples) == 5 and all(example.count("\n") <= 5 for example in examples), examples
     if language == "c":  # (the last goes round twice: it continues with what the list has after its state)
         more = "added = (struct ima_verify_bytes){grown.data + list.size, grown.size - list.size};\n}\n"
-        examples[3:] = ["for (int round = 0; round < 2; round++) {\n", examples[3], more]
+        examples[4:] = ["for (int round = 0; round < 2; round++) {\n", examples[4], more]
     return program(language, examples)
 
 
@@ -90,6 +90,7 @@ def inputs_of(folder):
     made, _ = next(quote_inputs(folder))
     (made / "grown").write_bytes((made / FILES[1]).read_bytes() + (made / FILES[1]).read_bytes()[-95:])
     (made / "known.txt").write_bytes(KNOWN.read_bytes())
+    (made / "padded").write_bytes((made / FILES[0]).read_bytes() + bytes(5))
     return made
 
 
@@ -98,10 +99,11 @@ def wanted(title):
     quoted = f"--quote {QUOTED}/quote.msg --list {FILES[1]} --nonce {(QUOTED / 'nonce').read_text()} --require sha256:0-10 --signature-checked"
     boot, known = (answer(words.split(), SAMPLE)[1].decode() for words in (
         f"boot {quoted} {FILES[0]}", f"verify --require sha256:0-10 --known {KNOWN} {' '.join(FILES)}"))
+    size = str((SAMPLE / FILES[0]).stat().st_size)
     if title.startswith("C,"):
-        return f"match 99\n{boot}{known}match 99 of 99\nmatch 99 of 100\n"
-    unknown, registers = re.findall(r"^unknown entry (\d+)$", known, re.MULTILINE), re.findall(r"^command unknown (\d+)$", boot, re.MULTILINE)
-    return [["match", "99"], [re.match(r"secure_boot (\w+)\n", boot)[1]], *([register] for register in registers), ["differ", *unknown],
+        return f"match 99\n{boot}{known}{size} 5\nmatch 99 of 99\nmatch 99 of 100\n"
+    unknown, registers = re.findall(r"^unknown entry (\d+)$", known, re.MULTILINE), re.findall(r"^command unknown (\d+)", boot, re.MULTILINE)
+    return [["match", "99"], [re.match(r"secure_boot (\w+)\n", boot)[1]], *([register] for register in registers), ["differ", *unknown], [size, "5"],
             ["match", "match", "99", "100"]]
 
 

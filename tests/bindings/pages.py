@@ -6,9 +6,9 @@ import re
 
 import inputs
 from harness import ROOT
-from reference.log import Event, Log
-from reference.measurement_list import VIOLATION, list_spelling, replay
-from reference.registers import ALGORITHMS, SHA256
+from reference.log import Event, Log, read_log
+from reference.measurement_list import BOOT_AGGREGATE, IMA_NG, VIOLATION, entry_of, list_spelling, replay
+from reference.registers import ALGORITHMS, SHA1, SHA256
 
 SAMPLE, QUOTED = ROOT / "samples/real-boot", ROOT / "samples/quoted"
 FILES = "firmware.log", "ima.list", "expected.txt"
@@ -88,6 +88,26 @@ def banks_inputs():
     return log.spelling(), list_spelling(entries), (QUOTED / "quote.msg").read_bytes()[:-SHA256.size] + digest  # (the digest is its end)
 
 
+def older_inputs():
+    """The list of a kernel before 5.8 in the sample's boot, whose boot aggregate is over PCRs 0 to 7 alone; PCRs 0 to 10 after it; and their quote."""
+    log = read_log((SAMPLE / FILES[0]).read_bytes())
+    entries, registers = [entry_of(IMA_NG, SHA256, log.registers().old_boot_aggregate(SHA256), BOOT_AGGREGATE)], log.registers()
+    replay(registers, entries)
+    values = [registers.value(SHA256, register) for register in range(11)]
+    lines = "".join(f"sha256 {register} {value.hex()}\n" for register, value in enumerate(values)).encode()
+    return list_spelling(entries), lines, (QUOTED / "quote.msg").read_bytes()[:-SHA256.size] + SHA256.hash(b"".join(values))
+
+
+def old_log():
+    """A log in the SHA-1 form with two events, and the crypto-agile log of these (docs/formats.md)."""
+    made, parts = Log({SHA1.identifier: SHA1.size}, []), []
+    for register, kind, data in ((0, 8, b"1\0"), (4, 4, bytes(4))):
+        digest = SHA1.hash(data)
+        parts += [*(number.to_bytes(4, "little") for number in (register, kind)), digest, len(data).to_bytes(4, "little"), data]
+        made.events.append(Event(register, kind, {SHA1.identifier: digest}, data))
+    return b"".join(parts), made.spelling()
+
+
 def header_files(folder):
     """A folder with the files that header.c reads: the sample boot, and what its inputs are changed to."""
     keys, known = ROOT / "samples/keys", ROOT / "samples/known"
@@ -98,11 +118,21 @@ def header_files(folder):
     log, entries, lines, message = files["log"], files["list"], files["expected"].splitlines(True), files["message"]
     last = entries[-95:]
     # (type, one digest, by SHA-256, which is of zeros; and no data)
-    event = b"".join(value.to_bytes(size, "little") for value, size in ((13, 4), (1, 4), (11, 2), (0, 32), (0, 4)))
+    event, hcrtm = (b"".join(value.to_bytes(size, "little") for value, size in ((kind, 4), (1, 4), (11, 2), (0, 32), (0, 4)))
+                    for kind in (13, 0x80000010))
+    hcrtm_log = log + bytes(4) + hcrtm
+    # (register 0, EV_NO_ACTION without digests, and TCG_EfiStartupLocalityEvent)
+    told_log = hcrtm_log + b"".join(value.to_bytes(4, "little") for value in (0, 3, 0, 17)) + b"StartupLocality\0\4"
+    told_pcr = read_log(told_log).registers().value(SHA256, 0)
+    sha1_log, made_log = old_log()
+    older_list, older_lines, older_message = older_inputs()
     files |= dict(zip(("banks_log", "banks_list", "banks_message"), banks_inputs()))
     files |= {"nonce": bytes.fromhex((QUOTED / "nonce").read_text()), "x": b"x", "weak": b"3f786850e387550fdab836ed7e6dc881de23001b  a\n",
               "last": last, "strayed": entries[:-95] + b"\x0b" + last[1:] + last, "first": lines[0], "tenth": lines[10],
               "other_list": entries[:-20] + bytes([entries[-20] ^ 1]) + entries[-19:], "other_message": message[:-1] + bytes([message[-1] ^ 1]),
+              "ascii": (SAMPLE / "ima.ascii").read_bytes(), "padded_log": log + 5 * b"\xff", "sha1_log": sha1_log, "from_sha1_log": made_log,
+              "older_list": older_list, "older_pcrs": older_lines, "older_message": older_message,
+              "hcrtm_log": hcrtm_log, "told_log": told_log, "told_pcrs": f"sha256 0 {told_pcr.hex()}\n".encode(),
               **{f"log{number}": log + number.to_bytes(4, "little") + event for number in (9, 10)}}
     folder.mkdir()
     for name, data in files.items():

@@ -5,6 +5,7 @@ known digests are given as one text, and the line of an error in it is then coun
 are asked for by pieces: with room for single lines and for many, which must give the same lines. The numbers of a verdict must be those that its
 line of JSON has. A verdict with which nothing is compared is no match for the library; the program's is given for it."""
 
+import copy
 import ctypes
 import json
 import os
@@ -34,7 +35,16 @@ FUNCTIONS = {
     ("registers", 1): "registers",
     ("show", 1): "entries",
     ("events", 1): "events",
+    ("list", 1): "convert",
+    ("log", 1): "convert",
 }
+# The flag of commands that replay a log, and the functions that take it after the log. (`events` shows it as an event, too.)
+HCRTM, REPLAYING = "--hcrtm", ("verify", "attest", "locate", "registers", "boot")
+REPLAYED = ("verdict", "locate", "more", "attest", "matching", "boot")
+# The flag of commands that compare a boot aggregate with what is required, the option beside which they have it, and the functions that take it
+# after that.
+OLD_KERNEL, BINDING = "--old-kernel", {"verify": "--require", "attest": "--require", "boot": "--quote", "events": "--quote"}
+BOUND = ("verdict", "more", "attest", "matching", "boot")
 # What requires that some PCR is compared: the command has no such word.
 NONE_REQUIRED = "none"
 # Those that take a text of their command's option each time, and which if there is none.
@@ -66,9 +76,9 @@ DONE, DIFFERS, REFUSED, OUT_OF_MEMORY, TOO_SHORT, MORE = (
     CONSTANTS[name] for name in ("DONE", "DIFFERS", "REFUSED", "OUT_OF_MEMORY", "TOO_SHORT", "MORE")
 )
 NO_ERROR, NO_PLACE = (CONSTANTS["NO_ERROR"], 0, (1 << 64) - 1), (1 << 64) - 1
-KIND_NAMES = ("LOG", "LIST", "REPLAY", "EXPECTED", "CHECKPOINT", "QUOTE", "KEY", "KNOWN", "SIGNATURE")
-KINDS = {"command line": "ARGUMENT", **{name.lower(): name for name in KIND_NAMES}}
-FAULT = re.compile(r"refused: (command line|\w+)(?: fault (\d+))?(?: at \w+ (\d+))?")
+KIND_NAMES = ("LOG", "LIST", "REPLAY", "EXPECTED", "CHECKPOINT", "QUOTE", "KEY", "KNOWN", "SIGNATURE", "TEXT_LIST", "LOG_FORM")
+KINDS = {"command line": "ARGUMENT", **{name.lower().replace("_", " "): name for name in KIND_NAMES}}
+FAULT = re.compile(r"refused: (command line|text list|log form|\w+)(?: fault (\d+))?(?: at \w+ (\d+))?")
 KNOWN_LINE = re.compile(rb"(refused: known fault \d at line )(\d+)")
 
 
@@ -147,7 +157,7 @@ def wanted_summary(report):
 
 def wanted_reason(report, wrong, missing):
     """The number of the first reason against a match that a report has."""
-    is_bound = report["boot_aggregate"] == "good" if "boot_aggregate" in report else report["entries"] > 0
+    is_bound = report["boot_aggregate"] in ("good", "old_kernel") if "boot_aggregate" in report else report["entries"] > 0
     against = {
         1: report.get("signature") == "not checked",
         2: bool(wrong) and "quote" not in report,
@@ -175,7 +185,10 @@ def look_at_numbers(status, text, summary):
 
 
 class Library:
-    """The library for C, by the functions that it exports."""
+    """The library for C, by the functions that it exports; whether the event of an H-CRTM tells where a log began, and whether an older kernel's
+    boot aggregate is taken."""
+
+    hcrtm = old_kernel = False
 
     def __init__(self, file):
         functions = ctypes.CDLL(os.path.abspath(file))
@@ -189,6 +202,7 @@ class Library:
     def takes(self, words, folder, most_bytes=MOST_BYTES):
         """Whether there is a function for a command, and it is given files of at most so many bytes, texts of options and nothing else; and
         a file that it saves can be written."""
+        words, *_ = without_flags(words)
         call = more_of(words) or by_quote_of(words) or key_of(words) or boot_of(words) or call_of(words)
         if call is None or not all(is_input(file, folder, most_bytes) for file in call.inputs()):
             return False
@@ -199,6 +213,12 @@ class Library:
 
     def answer(self, words, folder):
         """What the function for a command answers. The checkpoint that the command saves is written as there."""
+        asked = copy.copy(self)
+        words, asked.hcrtm, asked.old_kernel = without_flags(words)
+        return asked.answer_plain(words, folder)
+
+    def answer_plain(self, words, folder):
+        """The same, of words without these flags."""
         try:
             more, by_quote, key, boot = more_of(words), by_quote_of(words), key_of(words), boot_of(words)
             if key:
@@ -216,7 +236,10 @@ class Library:
         inputs = [(folder / file).read_bytes() for file in call.files]
         if call.function in ("entries", "events"):
             return self.answer_by_pieces(call, inputs[0])
-        flags = [call.is_of_list] if call.function == "registers" else []
+        if call.function == "convert":
+            conversion = CONSTANTS["CONVERT_LIST" if call.is_of_list else "CONVERT_LOG"]
+            return self.ask_with_room("convert", inputs, [conversion, ctypes.byref(ctypes.c_size_t())])[:2]
+        flags = [call.is_of_list, self.hcrtm] if call.function == "registers" else []
         texts = [] if call.text is None else [encoded(call.text)]
         if call.function in KNOWING:
             texts, flags = [*texts, call.known_text(folder)], [bool(call.known)]
@@ -269,11 +292,16 @@ class Library:
                 return status, text, info
             room = info.size
 
+    def given(self, function, inputs):
+        """The inputs as a function takes them."""
+        flags = [*([self.hcrtm] if function in REPLAYED else []), *([self.old_kernel] if function in BOUND else [])]
+        return [*pairs(inputs[:1]), *flags, *pairs(inputs[1:])]
+
     def ask(self, function, inputs, between, room):
         """The status, the text, and what else is told, of one call with this much room."""
         out, info, numbers = ctypes.create_string_buffer(FILL * room, max(room, 1)), Info(), Numbers()
         counted = numbers.words() if function in NUMBERED else ()
-        status = self.functions[function](*pairs(inputs), *between, *counted, out, room, ctypes.byref(info))
+        status = self.functions[function](*self.given(function, inputs), *between, *counted, out, room, ctypes.byref(info))
         return self.looked_at(status, out, room, info, numbers if counted else None)
 
     def looked_at(self, status, out, room, info, numbers=None):
@@ -343,7 +371,7 @@ class Library:
         while True:
             out, following = (ctypes.create_string_buffer(FILL * size, size) for size in (room, next_room))
             info, next_size, numbers = Info(), ctypes.c_size_t(), Numbers()
-            words = [*pairs(inputs), *flags, *numbers.words(), following, next_room, ctypes.byref(next_size), out, room, ctypes.byref(info)]
+            words = [*self.given(function, inputs), *flags, *numbers.words(), following, next_room, ctypes.byref(next_size), out, room, ctypes.byref(info)]
             status = self.functions[function](*words)
             if status != TOO_SHORT:
                 if following.raw[next_size.value :].strip(FILL):
@@ -522,6 +550,14 @@ class Key:
         return [self.file]
 
 
+def without_flags(words):
+    """The words without the flags of a log and its list, and whether they have each, where their command has it."""
+    name, options = words[0] if words else "", {word.partition("=")[0] for word in words}
+    replays, binds = name in REPLAYING and words.count(HCRTM) == 1, BINDING.get(name) in options and words.count(OLD_KERNEL) == 1
+    taken = {flag for flag, is_there in ((HCRTM, replays), (OLD_KERNEL, binds)) if is_there}
+    return [word for word in words if word not in taken], replays, binds
+
+
 def given_in(words, options, flag_names, count=3):
     """Of words after a command the files, the values of these options and these flags; or None if they are not so many files, or one of the
     others has no value or comes twice."""
@@ -631,7 +667,9 @@ def call_of(words):
     if (values and function not in TEXTS) or (function != "expected" and NONE_REQUIRED in values) or (function == "events" and not is_json):
         # (the command has no such option or word, or the function no such form)
         return None
-    return Call(function, files, values[0] if values else TEXTS.get(function), is_json, name == "replay", known)
+    if function == "convert" and is_json:
+        return None
+    return Call(function, files, values[0] if values else TEXTS.get(function), is_json, name in ("replay", "list"), known)
 
 
 def is_input(name, folder, most_bytes):

@@ -203,10 +203,13 @@ def rows_of_key(value):
 def is_answer(value, row):
     """Whether a line of text has the words of a value of `boot`, and at its end the JSON of what these say, whose characters may be escaped."""
     words, brace, told = row.partition("{")
-    said = [value[name] for name in ("firmware_version", "claimed", "content") if isinstance(value.get(name), dict)]
+    kind = words.split()[0]
+    if kind == "claimed" and isinstance(value["claimed"], dict):
+        kind, value = words.split()[2], value["claimed"]
+    said = [found for name, found in value.items() if isinstance(found, dict) and name != "digests"]
     texts = {name: value[name] for name in ("text", "text_hex") if name in value}
-    plain = [str(found) for name, found in value.items() if name not in texts and not isinstance(found, dict)]
-    has_words = words.split()[0] in value and {*plain, *value.get("digests", {}).values()} <= set(words.split())
+    plain = [f"({found})" if name == "register_name" else str(found) for name, found in value.items() if name not in texts and not isinstance(found, dict)]
+    has_words = kind in value and {*plain, *value.get("digests", {}).values()} <= set(words.split())
     return has_words and ([json.loads(brace + told)] if brace else []) == ([texts] if texts else said)
 
 

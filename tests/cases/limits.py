@@ -24,14 +24,16 @@ import reference  # noqa: E402
 from c_library import MOST_BYTES, Library  # noqa: E402
 from harness import ROOT  # noqa: E402
 from reference.boot_answers import Boot  # noqa: E402
+from reference.event_data import brief  # noqa: E402
 from reference.event_texts import guid_text  # noqa: E402
 from reference.fields import number  # noqa: E402
 from reference.json_texts import json_text  # noqa: E402
 from reference.keys import PEM_LINE  # noqa: E402
 from reference.known_files import Unknown  # noqa: E402
 from reference.log import Event, Log  # noqa: E402
+from reference.log_forms import EV_EFI_HCRTM_EVENT  # noqa: E402
 from reference.measurement_list import BOOT_AGGREGATE, IMA_NG, Entry, entry_of, list_spelling, list_text, replay  # noqa: E402
-from reference.registers import ALGORITHMS, SHA1, SHA256, Registers, register_line  # noqa: E402
+from reference.registers import ALGORITHMS, SHA1, SHA256, Registers, register_line, register_words  # noqa: E402
 from reference.texts import Expected, pcrread_text  # noqa: E402
 from reference.verdict import locate, verdict, verdict_report  # noqa: E402
 
@@ -73,6 +75,12 @@ def payload_of(size):
 
 def log_of_size(size):
     return Log(BANKS, [separator_of(size - len(LOG.spelling()))]).spelling()
+
+
+def started_of_size(size):
+    """A log of a machine that an H-CRTM started."""
+    hcrtm = separator_of(0)._replace(register=0, type=EV_EFI_HCRTM_EVENT)
+    return Log(BANKS, [hcrtm, separator_of(size - len(Log(BANKS, [hcrtm, separator_of(0)]).spelling()))]).spelling()
 
 
 def list_of_size(size):
@@ -158,7 +166,9 @@ INPUTS = (
     Input("log of one event", log_of_size, (
         "registers input", "events input", "events --data input", "events --explain input", "verify input list expected", "locate input list expected",
         "measure input f", f"{ATTEST} input list quote", "boot --expected expected input", "boot --before input --expected expected L",
+        "log input",
     )),
+    Input("log of a machine that an H-CRTM started", started_of_size, ("registers --hcrtm input", "events --hcrtm input")),
     Input("list with a long payload", list_of_size, (
         "show input", "replay input", f"replay --require {REQUIRE} input expected", "verify L input expected",
         "locate L input expected", f"{ATTEST} L input quote", f"{ATTEST} --prefix L input quote",
@@ -348,7 +358,7 @@ class Limits(harness.TestCase):
             event = Event(5, kind, {SHA256.identifier: bytes(SHA256.size)}, data)
             (self.room / "log").write_bytes(Log(BANK, [event]).spelling())
             self.ask_of_parts(f"very many {title}", {
-                "events --explain log": (0, f"{Log(BANK, []).text()}{event.head(1)} claimed\n  {json_text(content)}\n"),
+                "events --explain log": (0, f"{Log(BANK, []).text()}1 {register_words(5)} {event.type_name} claimed\n  {json_text(brief('content', content))}\n"),
             })
 
     def test_entries(self):

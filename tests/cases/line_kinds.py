@@ -23,7 +23,7 @@ OUTPUTS = {
     "events": "header( event)*( error)?",
     "show": "(entry )*(end|error)",
     "measure": "entry( entry)*|pcrs",
-    "boot": "secure_boot firmware_version( image)*( command)* ima_policy( boot_variable)*( alike( changed)*)*",
+    "boot": "(secure_boot firmware_version( image)*( command)* ima_policy( boot_variable)*|claim( claim)*)( alike( changed)*)*",
 }
 # What an option or a name makes of the output of some commands.
 CHOSEN = {
@@ -58,7 +58,7 @@ def output_of(words):
         asked = read_words(words)
     except Fault:
         return ""
-    if not asked.values["--json"]:
+    if not asked.values.get("--json"):
         return ""
     pattern = CHOSEN[asked.command](asked) if asked.command in CHOSEN else OUTPUTS[asked.command]
     return f"{pattern}|{ERROR}"

@@ -33,8 +33,8 @@ try:
 except ImportError:
     Validator = None
 
-# Values that no case can have: an error of the program itself.
-NOWHERE = {("fault.kind", "gather")}
+# Values that no case can have: an error of the program itself, and errors of the library alone.
+NOWHERE = {("fault.kind", "gather"), ("fault.kind", "text_list"), ("fault.kind", "log_form")}
 # What `events --explain` and `boot` show as JSON within the lines of their text.
 IN_TEXT = {"events": re.compile(r"  (\{.*\})"), "boot": re.compile(r"[a-z_]+ [^{]*?(\{.*\})")}
 CONTENT = "content"
@@ -43,7 +43,8 @@ TABLE = re.compile(r"^(\|.*\| Member \|)\n\|[-|]*\n((?:\|.*\n)*)", re.MULTILINE)
 # The definition for each layout of event data.
 LAYOUTS = {"A command": "command_data", "A variable": "variable", "An image": "image_data", "A partition table": "gpt", "A partition": "partition",
            "A blob, or a described one": "blob", "A tagged event": "tagged", "A load option": "load_option", "A signature": "signature",
-           "Signature lists, one after another": "signature_list"}
+           "A certificate": "certificate", "Signature lists, one after another": "signature_list", "Tables, or described ones": "handoff",
+           "A table": "vendor_table"}
 
 
 def strict(part):
@@ -80,7 +81,16 @@ def contents_of_cases():
     """The case of each content that the text of a case shows, and the content."""
     for case, command, lines in commands_of_cases(lambda words: words[:1] in (["events"], ["boot"]) and "--json" not in words):
         found = filter(None, (IN_TEXT[command.words[0]].fullmatch(line) for line in lines))
-        yield from ((f"{case.name}:{command.line}", json.loads(match[1])) for match in found)
+        yield from ((f"{case.name}:{command.line}", whole(json.loads(match[1]))) for match in found)
+
+
+def whole(value):
+    """What a text shows, as JSON has it: long bytes, of which a text has the beginning and the number, are shown as the beginning."""
+    if isinstance(value, list):
+        return [whole(each) for each in value]
+    if not isinstance(value, dict):
+        return value
+    return value["begins"] if value.keys() == {"begins", "size"} else {name: whole(each) for name, each in value.items()}
 
 
 def commands_of_cases(is_sought):

@@ -39,8 +39,10 @@ from reference.faults import Fault  # noqa: E402
 from reference.hints import (  # noqa: E402
     AGGREGATES,
     APART,
+    BY_HCRTM,
     EMPTY,
     LIST_FOR_LOG,
+    LIST_FOR_TEXT,
     LOG_FOR_LIST,
     NO_ENTRIES,
     NO_EXPECTED,
@@ -49,6 +51,7 @@ from reference.hints import (  # noqa: E402
     OLD_AGGREGATE,
     OLD_LOG,
     OLD_REGISTERS,
+    ONLY_SHA1,
     OTHER_BOOT,
     PRINTED_FOR_EXPECTED,
     SEEN_BY,
@@ -59,12 +62,15 @@ from reference.hints import (  # noqa: E402
     mistake_in,
     next_steps,
     said_anyway,
+    said_of_match,
+    said_of_padding,
 )
 from reference.known_files import read_known  # noqa: E402
-from reference.log import Log, read_log  # noqa: E402
-from reference.measurement_list import BOOT_AGGREGATE, IMA_NG, entry_of, read_prefix  # noqa: E402
+from reference.log import Event, Log, read_log  # noqa: E402
+from reference.log_forms import EV_EFI_HCRTM_EVENT, told_log  # noqa: E402
+from reference.measurement_list import BOOT_AGGREGATE, IMA_NG, entry_of, read_prefix, replay  # noqa: E402
 from reference.quotes import read_quote  # noqa: E402
-from reference.registers import SHA256  # noqa: E402
+from reference.registers import SHA1, SHA256  # noqa: E402
 from reference.texts import read_requirement  # noqa: E402
 
 PROGRAM = harness.argument()
@@ -110,15 +116,20 @@ INPUTS = {
     "expected": ["expected"],
     "key": ["key"],
     "registers": ["log"],
+    "list": ["text"],
+    "log": ["form"],
     "events": ["log"],
     "boot": ["log"],
     "show": ["list"],
     "replay": ["list", "expected"],
 }
 
+# The commands that take `-` as standard input, and for which inputs.
+TAKE_STANDARD_INPUT = {"list": ["text"], "log": ["form"], "expected": ["expected"], "key": ["key"], **dict.fromkeys(("events", "boot"), ["log", "expected"])}
+
 # The sentences by which the program displays faults, by number; those of expected registers from 4 on name no line.
-LOG, LIST, REPLAY, EXPECTED, KNOWN, QUOTE, SIGNATURE, KEY, CHECKPOINT, BOOK = map(
-    form.displayed_of, ("Log", "List", "Replay", "Expected", "Known", "Quote", "Signature", "Key", "Checkpoint", "Book"))
+LOG, FORM, LIST, TEXT, REPLAY, EXPECTED, KNOWN, QUOTE, SIGNATURE, KEY, CHECKPOINT, BOOK = map(
+    form.displayed_of, ("Log", "Form", "List", "Text", "Replay", "Expected", "Known", "Quote", "Signature", "Key", "Checkpoint", "Book"))
 
 # The numbers of the signature faults that are of the key, and what to do about each; about a key that is no public area, which the first ten of its
 # faults are of; and where nobody looked at a signature.
@@ -157,6 +168,11 @@ USAGES = [
       for words in (["verify", "L", "M", "N"], ["replay", "L", "M"], ["replay", "L"])),
     (["key", "--print", "ascii", "L"],
      f"error: invalid value 'ascii' for '--print <PART>'\n  [possible values: all, name, pem]\n{MORE}"),
+    *(([command, "--json", "L"], "error: unexpected argument '--json' found\n\n  tip: to pass '--json' as a value, use '-- --json'\n\n"
+       f"Usage: ima-agent {command} <FILE>\n{MORE}") for command in ("list", "log")),
+    *(([command, *more, "--expected", "-", "-"], "error: the argument '--expected <EXPECTED>' cannot be '-' if '<LOG>' is\n")
+      for command, more in (("boot", []), ("events", ["--explain"]), ("events", ["--json"]))),
+    (["boot", "--before", "-", "L"], "error: invalid value '-' for '--before <OLD_LOG>': it is no file\n"),
     (["\x1b[31m\nred"], f"error: unrecognized subcommand '\\x1b[31m\\x0ared'\n\nUsage: ima-agent [COMMAND]\n{MORE}"),
     *(([*words, "--require", text, *names], f"error: invalid value '{text}' for '{REQUIRE}': at byte {place}, '{part}': {MALFORMED}\n")
       for words, names, text, place, part in (
@@ -197,6 +213,8 @@ USAGES = [
     *(([*command, "--key", "K", "--signature", "S", "L"], "error: the argument '--key <KEY>' cannot be used without '--quote'\n")
       for command in (["boot"], ["events", "--json"], ["events"])),
     (["boot", "--signature", "S", "L"], "error: the argument '--signature <SIG>' cannot be used without '--quote'\n"),
+    (["boot", "--old-kernel", "L"], "error: the argument '--old-kernel' cannot be used without '--quote'\n"),
+    (["verify", "--old-kernel", "L", "M", "E"], "error: the argument '--old-kernel' cannot be used without '--require'\n"),
     (["attest", "--nonce", "00", "L", "M", "Q"],
      f"error: the following required arguments were not provided:\n  {REQUIRE}\n\n"
      f"Usage: ima-agent attest {NONCE} {REQUIRE} <LOG> <LIST> <QUOTE> [EXPECTED]\n{MORE}"),
@@ -213,6 +231,9 @@ USAGES = [
           ("sha256:0-10,sha1:16", "register 16 is required in the SHA-1 bank alone"),
       )),
 ]
+
+# The type of an event that no H-CRTM leaves.
+EV_S_CRTM_VERSION = 8
 
 # After how many seconds a command that reads a pipe once more is ended: it would wait for ever.
 PIPE_SECONDS = 60
@@ -292,6 +313,8 @@ def sentence_of(words, line, folder):
 
 def fault_in_words(line, words, folder):
     """The name of the input that a fault is of, or None, and what is wrong with it."""
+    if line in ("failed: read -", "refused: too long -") and (not words or words[0] in TAKE_STANDARD_INPUT):
+        return None, "cannot read standard input" if line.startswith("failed") else "standard input is longer than 64 MiB"
     if found := re.fullmatch(r"failed: read (.*)", line, re.DOTALL):
         return None, unread(found[1], folder, takes_only_files(words))
     if found := re.fullmatch(r"failed: write (.*)", line, re.DOTALL):
@@ -307,6 +330,11 @@ def fault_in_words(line, words, folder):
     inputs, files = names_of(words)
     if found := re.fullmatch(r"refused: log fault (\d+)(?: at event (\d+))?", line):
         return inputs["log"], (f"event {found[2]}: " if found[2] else "") + LOG[int(found[1])]
+    if found := re.fullmatch(r"refused: log form fault (\d+)(?: at event (\d+))?", line):
+        number, place = int(found[1]), f"event {found[2]}: " if found[2] else ""
+        return inputs["form"], FORM[number].replace("{event}", found[2] or "") if number in FORM else place + LOG[number]
+    if found := re.fullmatch(r"refused: text list fault (\d+) at line (\d+)", line):
+        return inputs["text"], f"line {found[2]}: {TEXT[int(found[1])]}"
     if found := re.fullmatch(r"refused: (list|replay) fault (\d+) at entry (\d+)", line):
         return inputs["list"], f"entry {found[3]}: {(LIST if found[1] == 'list' else REPLAY)[int(found[2])]}"
     if found := re.fullmatch(r"refused: expected fault ([4-6])", line):
@@ -366,6 +394,8 @@ def names_of(words):
     inputs = {**named, **dict(zip(kinds, asked.names))}
     if asked.values.get("--before") is not None:
         inputs["log"] = None  # (the fault of either log names none)
+    taken = TAKE_STANDARD_INPUT.get(asked.command, [])
+    inputs = {kind: "standard input" if name == "-" and kind in taken else name for kind, name in inputs.items()}
     return inputs, asked.names[len(kinds):]
 
 
@@ -427,12 +457,12 @@ def signing_due(words, line):
 
 def mistake_due(words, line, folder, given):
     """The line that says what the refused input is in place of what it should be, or no bytes."""
-    found = re.match(rb"refused: (log|list|replay|expected) fault ", line)
+    found = re.match(rb"refused: (log form|text list|log|list|replay|expected) fault ", line)
     if not found or not words:
         return b""
-    kind = found[1].decode().replace("replay", "list")
+    kind = {"log form": "form", "text list": "text", "replay": "list"}.get(found[1].decode(), found[1].decode())
     name = names_of(words)[0][kind]
-    if name is None or not is_regular(name, folder, given):
+    if name in (None, "standard input") or not is_regular(name, folder, given):
         return b""
     data = given if name == "/dev/stdin" else (folder / name).read_bytes()
     mistake = mistake_in("printed" if words[0] == "expected" else kind, data)
@@ -454,14 +484,16 @@ def case_fault(command, folder, output):
     except (OSError, subprocess.TimeoutExpired) as error:
         return str(error)
     line = fault_line_of(command.words, text) if status >= 2 else None
-    anyway = "".join(f"{line}\n" for line in said_anyway(command.words, text)).encode() if status == 0 else b""
+    given = (folder / command.input).read_bytes() if command.input else None
+    lines = [*said_anyway(command.words, text), *said_of_padding(command.words, folder, given or b"")] if status == 0 else []
+    anyway = "".join(f"{line}\n" for line in lines).encode()
     # (this may move the output away)
     fault = fault_of(command, Answer(status, output, anyway), folder)
     if fault is not None:
         return f"the answer is another one:\n    {fault}"
-    given = (folder / command.input).read_bytes() if command.input else None
     try:
-        wanted = hints_due(command.words, folder, given) if status == 1 else anyway if line is None else sentence_of(command.words, line, folder)
+        told = anyway + "".join(f"{line}\n" for line in said_of_match(command.words)).encode() if status == 0 else b""
+        wanted = hints_due(command.words, folder, given) if status == 1 else told if line is None else sentence_of(command.words, line, folder)
         wanted = wanted and wanted + (mistake_due(command.words, line, folder, given) + signing_due(command.words, line) if line else b"")
         wanted = f"{UNSIGNED}\n".encode() if status == 4 and line is None else wanted
     except (Fault, KeyError, ValueError) as error:
@@ -504,6 +536,11 @@ def further_commands():
                   lambda: give("."))
     yield Command("standard input without an end", [], Ended(2, b"refused: too long -\n", b"standard input is longer than 64 MiB\n"),
                   lambda: give("/dev/zero"))
+    yield Command("a folder as the standard input of events", ["events", "-"], Ended(3, b"failed: read -\n", b"cannot read standard input: Is a directory\n"),
+                  lambda: give("."))
+    yield Command("standard input of list without an end", ["list", "-"],
+                  Ended(2, b"refused: too long -\n", b"standard input is longer than 64 MiB\n"), lambda: give("/dev/zero"))
+    yield Command("a file of the name of standard input", ["show", "-"], Ended(3, b"failed: read -\n", b"cannot read -: No such file or directory\n"))
     yield Command("a folder", ["show", "."], Ended(3, b"failed: read .\n", b"cannot read .: Is a directory\n"))
     for title, settle in (
         ("a full device", fill_output), ("a pipe that nobody reads", break_output), ("no standard output", lambda: os.close(1)),
@@ -579,6 +616,16 @@ def hinted_commands():
     yield "files that are not known, in a list alone", ["replay", "--require=sha256:10", "--known=known", "ima.list", "ten.txt"], 1, [unknown]
     yield "a list that grew by files that are not known", [
         "verify", "--require=sha256:0-10", "--known=known", "firmware.log", "longer.list", "expected.txt"], 1, [grown, unknown]
+    started = ["hcrtm.log", "hcrtm.list"]
+    yield "a machine that an H-CRTM started", ["verify", *started, "hcrtm.txt"], 1, [BY_HCRTM]
+    yield "the same, told", ["verify", "--hcrtm", *started, "hcrtm.txt"], 0, []
+    yield "its PCR 10 alone", ["verify", "--require=sha256:10", *started, "hcrtm.ten.txt"], 1, [BY_HCRTM]
+    yield "its PCR 4, which differs, too", ["verify", *started, "hcrtm.four.txt"], 1, [BY_HCRTM]
+    yield "that PCR 4, told", ["verify", "--hcrtm", *started, "hcrtm.four.txt"], 1, [changed]
+    yield "where its values are", ["locate", *started, "hcrtm.txt"], 1, [BY_HCRTM]
+    yield "its quote", ["attest", *quoted, "--require=sha256:0-10", *started, "hcrtm.msg"], 1, [BY_HCRTM]
+    yield "its quote, told", ["attest", "--hcrtm", *quoted, "--require=sha256:0-10", *started, "hcrtm.msg"], 0, []
+    yield "an option that tells nothing of this log", ["verify", "--hcrtm", "firmware.log", "ima.list", "changed.txt"], 1, [changed]
     yield "a list that is piped", ["verify", "firmware.log", "/dev/stdin", "expected.txt"], 1, []
     yield "a device as list", ["verify", "firmware.log", "/dev/null", "expected.txt"], 1, []
     links = [f"link to {name}" for name in ("firmware.log", "longer.list", "expected.txt")]
@@ -602,6 +649,11 @@ def mistaken_commands():
         (["registers", "empty"], "log fault 1 at event 0", "empty", cut, EMPTY),
         (["expected", "empty"], "expected fault 6", "empty", "no register is stated, or none of those that are wanted", NOTHING_PRINTED),
         (["registers", "L cut"], "log fault 1 at event 0", "L cut", cut, None),
+        (["list", "ima.list"], "text list fault 1 at line 1", "ima.list", f"line 1: {TEXT[1]}", LIST_FOR_TEXT),
+        (["list", "firmware.log"], "text list fault 1 at line 1", "firmware.log", f"line 1: {TEXT[1]}", LOG_FOR_LIST),
+        (["log", "ima.list"], "log form fault 13", "ima.list", FORM[13], LIST_FOR_LOG),
+        (["log", "empty"], "log form fault 1 at event 0", "empty", cut, EMPTY),
+        (["log", "L cut"], "log form fault 1 at event 0", "L cut", cut, None),
         *((["registers", f"{name} is a list"], "log fault 2", f"{escaped} is a list", head, LIST_FOR_LOG) for name, escaped in NAMES),
         (["verify", "firmware.log", "link to ima.ascii", "expected.txt"], "list fault 2 at entry 0", "link to ima.ascii",
          "entry 0: it names a register of 24 or more", TEXT_FOR_LIST),
@@ -610,6 +662,17 @@ def mistaken_commands():
     ):
         said = [f"{name}: {sentence}"] + ([f"{name}: {mistake}"] if mistake else [])
         yield f"{mistake or 'no mistake'}: {words}", words, f"refused: {refused}\n".encode(), said
+
+
+def weak_commands():
+    """Commands whose answer is a match, or located values, and what a terminal gets where a PCR is required in the SHA-1 bank alone."""
+    log, listed = "weak.log", "weak.list"
+    yield ["verify", log, listed, "weak.txt"], []
+    yield ["verify", "--require=sha1:0-10", log, listed, "weak.txt"], [ONLY_SHA1.format(0)]
+    yield ["verify", "--json", "--require=sha1:10,4", log, listed, "weak.txt"], [ONLY_SHA1.format(4)]
+    yield ["locate", "--require=sha1:10", log, listed, "weak.txt"], [ONLY_SHA1.format(10)]
+    yield ["replay", "--require=sha1:10", listed, "weak.ten.txt"], [ONLY_SHA1.format(10)]
+    yield ["verify", "--require=sha256:10", "firmware.log", "ima.list", "expected.txt"], []
 
 
 def signed_commands():
@@ -781,8 +844,35 @@ def make_samples(folder):
     (folder / "L cut").write_bytes((folder / "L").read_bytes()[:40])
     # (an event of TPM 1.2: register, type, SHA-1, size and data)
     (folder / "old.log").write_bytes(bytes.fromhex("00000000 08000000" + "11" * 20 + "02000000 0000"))
+    make_boot(folder, "hcrtm", SHA256, Event(0, EV_EFI_HCRTM_EVENT, {SHA256.identifier: SHA256.hash(b"HCRTM")}, b"HCRTM"))
+    make_boot(folder, "weak", SHA1, Event(0, EV_S_CRTM_VERSION, {SHA1.identifier: SHA1.hash(b"1")}, b"1"))
     for name in ("firmware.log", "longer.list", "expected.txt", "quote.msg", "ima.ascii", "old.log"):
         (folder / f"link to {name}").symlink_to(name)
+
+
+def make_boot(folder, name, algorithm, event):
+    """A log of this event and a list, with the values that they make where an H-CRTM's event tells where the machine started, and a quote of these."""
+    log = Log({algorithm.identifier: algorithm.size}, [event]).spelling()
+    registers = read_log(told_log(log)).registers()
+    entry = entry_of(IMA_NG, algorithm, registers.boot_aggregate(algorithm), BOOT_AGGREGATE)
+    replay(registers, [entry])
+    values = {register: registers.value(algorithm, register) for register in range(11)}
+    rows = {register: f"{algorithm.name} {register} {value.hex()}\n" for register, value in values.items()}
+    (folder / f"{name}.log").write_bytes(log)
+    (folder / f"{name}.list").write_bytes(entry.spelling())
+    (folder / f"{name}.txt").write_text("".join(rows.values()))
+    (folder / f"{name}.ten.txt").write_text(rows[10])
+    (folder / f"{name}.four.txt").write_text("".join({**rows, 4: f"{algorithm.name} 4 {'ab' * algorithm.size}\n"}.values()))
+    (folder / f"{name}.msg").write_bytes(quote_of(algorithm, SHA256.hash(b"".join(values.values()))))
+
+
+def quote_of(algorithm, digest):
+    """A quote of PCRs 0 to 10 of a bank, for the nonce that is given (docs/layouts.txt)."""
+    nonce = bytes.fromhex(NONCE_GIVEN)
+    head = b"\xffTCG\x80\x18" + bytes(2) + len(nonce).to_bytes(2, "big") + nonce
+    clock = bytes(8 + 4 + 4) + b"\x01" + bytes(8)
+    selection = (1).to_bytes(4, "big") + algorithm.identifier.to_bytes(2, "big") + b"\x03\xff\x07\x00"
+    return head + clock + selection + len(digest).to_bytes(2, "big") + digest
 
 
 def left_on_terminal(command, folder):
@@ -869,6 +959,17 @@ class Further(harness.TestCase):
             for place, leave in {"on a terminal": left_on_terminal, "elsewhere": left_elsewhere}.items():
                 ended = leave(command, self.room)
                 self.check(f"nothing compared {words}, {place}", (ended.status, ended.said), (0, f"{NO_EXPECTED}\n".encode()))
+
+    def test_matches(self):
+        """That PCRs were required in the SHA-1 bank alone is told on a terminal, and nowhere else."""
+        make_samples(self.room)
+        for words, lines in weak_commands():
+            command, said = Command(None, words, None), "".join(f"{line}\n" for line in lines).encode()
+            plain = left_elsewhere(command, self.room)
+            self.check(f"{words}, elsewhere", (plain.status, plain.said), (0, b""))
+            self.check(f"{words}, on a terminal", left_on_terminal(command, self.room), plain._replace(said=said))
+            explained = command._replace(words=[words[0], "--explain", *words[1:]])
+            self.check(f"{words}, explained", left_elsewhere(explained, self.room), plain)
 
     def test_signatures(self):
         """What to do about a signature or a key comes on a terminal, and with --explain elsewhere; no pipe is read where a signature is verified."""

@@ -19,9 +19,10 @@ FIELDS = {
     "ima-collect": {**ALL, "Section": "admin", "Recommends": "tpm2-tools (>= 5)"},
     "libima-verify1": {**SAME, "Section": "libs", "Depends": "libc6 (>= GLIBC)"},
     "libima-verify-dev": {**SAME, "Section": "libdevel", "Depends": "libima-verify1 (= VERSION)", "Suggests": "pkgconf | pkg-config"},
-    "python3-ima-verify": {**ALL, "Section": "python", "Depends": "python3 (>= 3.10), libima-verify1 (>= VERSION)"},
+    "python3-ima-verify": {**ALL, "Section": "python", "Depends": "python3 (>= 3.10), libima-verify1 (>= VERSION)",
+                           "Suggests": "python3-cryptography (>= 38)"},
     "fleet-verify": {**ALL, "Section": "admin", "Suggests": "python3-distributed (<< 2023), python3-distributed (>= 2022.12.1), "
-                     "python3-fsspec (>= 2022.11)", "Depends": "python3 (>= 3.10), python3-ima-verify (<< 2), "
+                     "python3-cryptography (>= 38), python3-fsspec (>= 2022.11)", "Depends": "python3 (>= 3.10), python3-ima-verify (<< 2), "
                      "python3-ima-verify (>= 1.0), python3-jinja2 (>= 3.0), ima-agent (>= VERSION)"},
 }
 RELATIONS = ("Architecture", "Multi-Arch", "Section", "Depends", "Pre-Depends", "Recommends", "Suggests", "Maintainer", "Version", "Priority")

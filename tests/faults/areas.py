@@ -1,4 +1,5 @@
-"""Public areas of keys: those of the samples and whole ones of other forms and sizes, as lists of fields, which are then changed at random."""
+"""Public areas of keys: those of the samples and whole ones of other forms and sizes, as lists of fields, which are then changed at random, with
+their size before them or bare."""
 
 from typing import NamedTuple
 
@@ -205,13 +206,16 @@ CHANGES = (turn_bit, turn_bit, set_number, set_number, set_attributes, set_attri
            resize, cut, lengthen)
 
 
-def framed(chance, area):
-    """An area with its size before it, which now and then is another, or is not all that there is."""
+def held(chance, area):
+    """An area with its size before it, which now and then is another, or is not all that there is; or a bare one."""
     size = len(area) & 0xFFFF
+    if chance.random() < 0.3:
+        return area
     if chance.random() < 0.95:
         return short(size) + area
     others = (short((size + chance.choice((-1, 1, 256))) & 0xFFFF) + area, short(size) + area + bytes(chance.randint(1, 3)),
-              (short(size) + area)[: chance.randrange(size + 2)], short(chance.choice(SHORT_NUMBERS)) + area)
+              (short(size) + area)[: chance.randrange(size + 2)], short(chance.choice(SHORT_NUMBERS)) + area, short(RSA) + area, short(ECC) + area,
+              area[:2] + short(size) + area[2:])
     return chance.choice(others)
 
 
@@ -226,4 +230,4 @@ def random_area(chance):
     for change in chance.choices(CHANGES, k=chance.choice((0, 1, 1, 1, 2, 3))):
         if any(fields):
             change(chance, fields)
-    return framed(chance, b"".join(fields)), is_endorsement ^ (chance.random() < 0.1)
+    return held(chance, b"".join(fields)), is_endorsement ^ (chance.random() < 0.1)

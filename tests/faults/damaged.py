@@ -131,7 +131,7 @@ def is_signed(kind):
 
 KINDS |= dict(signed_kinds())
 # What a function takes beside the inputs: a requirement, and its form.
-ANY_REQUIRED, AS_TEXT, OF_LOG = b"none", False, False
+ANY_REQUIRED, AS_TEXT, OF_LOG, AS_IT_STANDS = b"none", False, False, False
 NO_KNOWN, KNOWN_IS_NOT_GIVEN = b"", False
 NO_STATE, NO_KEY, NO_SIGNATURE, NO_DIGITS, SHA1_IS_NOT_TAKEN, IS_SIGNED, OF_WHOLE = b"", b"", b"", b"", False, True, False
 ENTRIES = Call("entries", [], None, AS_TEXT, False)
@@ -157,7 +157,7 @@ def library_answer(library, function, inputs):
         if function in ("key", "endorsement key"):
             return library.ask_for_key(*inputs, function != "key", AS_TEXT)
         if function == "registers":
-            return library.ask(function, inputs, [OF_LOG, AS_TEXT], ROOM)[:2]
+            return library.ask(function, inputs, [OF_LOG, AS_IT_STANDS, AS_TEXT], ROOM)[:2]
         return library.ask(function, [*inputs, ANY_REQUIRED, NO_KNOWN], [KNOWN_IS_NOT_GIVEN, AS_TEXT], ROOM)[:2]
     except Unlike as cause:
         return None, f"not answered: {cause}".encode()

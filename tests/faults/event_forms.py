@@ -6,12 +6,13 @@ from uuid import UUID
 
 from boots import message_of
 from reference.checkpoint import before_a_list
-from reference.event_data import COMMANDS, command_in, variable_in
+from reference.event_data import COMMANDS, GOOGLE_HOST, RESERVED, TABLES, WITH_NUL, command_in, read_variable, variable_in
+from reference.event_texts import read_front
 from reference.fields import number
 from reference.log import EV_NO_ACTION, TYPE_NAMES, Event, Log, Specification
 from reference.measurement_list import BOOT_AGGREGATE, IMA_NG, entry_of, list_spelling
 from reference.registers import ALGORITHMS, BY_IDENTIFIER, REGISTERS, SHA256
-from reference.variable_values import AUTHORITIES, EV_EFI_VARIABLE_AUTHORITY, FLAGS, GLOBAL, IMAGE_SECURITY, LISTS, SHIM
+from reference.variable_values import AUTHORITIES, CERTIFICATE, EV_EFI_VARIABLE_AUTHORITY, FLAGS, GLOBAL, IMAGE_SECURITY, LEVEL, LISTS, SHIM
 
 VARIABLES = (0x80000001, 0x80000002, 0x8000000C, 0x800000E0, 0x800000E3, 0x800000E4)
 IMAGES = (0x80000003, 0x80000004, 0x80000005)
@@ -25,6 +26,8 @@ LETTERS = "aZ09 /\\,()%\"'\x01\x1b\x7f\x80é€\ufeff\uffff😀"
 NODES = {(1, 1): 2, (1, 3): 20, (1, 5): 4, (2, 1): 8, (3, 2): 4, (3, 5): 2, (3, 11): 33, (3, 17): 1, (3, 18): 6, (3, 23): 12, (3, 25): 2, (3, 26): 1,
          (3, 29): 1, (4, 1): 38, (4, 2): 20, (4, 6): 16, (4, 7): 16, (4, 8): 20}
 VENDORS = ((1, 4), (3, 10), (4, 3))
+# The types whose data the manufacturer defines.
+CONFIGURATIONS = (0x09, 0x0A, 0x0B, 0x0F, 0x10, 0x11)
 ACPI = (0x0A0341D0, 0x0A0841D0, 0x060441D0, 0x030141D0, 0x050141D0, 0x040141D0, 0xA5B641D0, 0)
 END, END_OF_ONE = b"\x7f\xff\x04\0", b"\x7f\x01\x04\0"
 # What may stand in a command line beside letters.
@@ -62,7 +65,7 @@ def wide_text(chance):
 
 
 def command(chance):
-    return [chance.choice([*COMMANDS.values()]), word(chance).encode(), b"\0"]
+    return [chance.choice([*COMMANDS]), word(chance).encode(), b"\0"]
 
 
 def node(chance):
@@ -90,13 +93,18 @@ def path(chance):
     return [field for part in [*nodes, ends, *[node(chance) for _ in ends]] for field in part] + chance.choice(([END], []))
 
 
+def rest(chance):
+    """Bytes behind a form, now and then."""
+    return [chance.randbytes(chance.choice((1, 6, 8, 9)))] if chance.random() < 0.2 else []
+
+
 def size_of(fields):
     return sum(map(len, fields))
 
 
 def image(chance):
     nodes = path(chance)
-    return [*(number(chance.choice(BOUNDARIES), 8) for _ in range(3)), number(size_of(nodes), 8), *nodes]
+    return [*(number(chance.choice(BOUNDARIES), 8) for _ in range(3)), number(size_of(nodes), 8), *nodes, *rest(chance)]
 
 
 def option(chance):
@@ -105,12 +113,17 @@ def option(chance):
     return [number(chance.getrandbits(32)), number(size_of(nodes), 2), description, b"\0\0", *nodes, data]
 
 
+# EFI_CERT_X509_GUID, a5c059a1-94e4-4aa7-87b5-ab155c2bf072, by its bytes.
+X509 = bytes.fromhex("a159c0a5e494a74a87b5ab155c2bf072")
+
+
 def signature_list(chance):
     size, header = chance.choice((16, 17, 48)), chance.randbytes(chance.choice((0, 0, 0, 4)))
     owners = [guid(chance) for _ in range(2)]
     signatures = [chance.choice(owners) + chance.randbytes(size - 16) for _ in range(chance.choice((0, 1, 2, 5)))]
     whole = 28 + len(header) + size * len(signatures)
-    return [guid(chance), number(whole), number(len(header)), number(size), header, *signatures]
+    kind = chance.choice((guid(chance), X509))
+    return [kind, number(whole), number(len(header)), number(size), header, *signatures]
 
 
 def value(chance, names):
@@ -123,23 +136,37 @@ def value(chance, names):
         return [chance.randbytes(2) for _ in range(chance.choice((0, 1, 3)))]
     if names[0] == GLOBAL and names[1].startswith("Boot"):
         return option(chance)
+    if names == CERTIFICATE:
+        return certificate(chance)
+    if names == LEVEL:
+        return [chance.choice((b"sbat,1,2021030218\n", b"sbat,1,2022052400\ngrub,2\n", word(chance).encode())), chance.choice((b"", b"\0"))]
     return [chance.randbytes(chance.choice((0, 1, 4, 20)))]
 
 
+def certificate(chance):
+    """A SEQUENCE in DER, mostly of as many bytes as it says, and with a length in two bytes."""
+    size = chance.choice((255, 256, 257, 300, 1000))
+    told = size if chance.random() < 0.8 else chance.choice((size - 1, size + 1, size % 256))
+    return [chance.choice((b"\x30\x82", b"\x30\x82", b"\x30\x82", b"\x31\x82", b"\x30\x81")), told.to_bytes(2, "big"), chance.randbytes(size)]
+
+
 def variable(chance):
-    known = [*FLAGS, *LISTS, *[(GLOBAL, "BootOrder")] * 3, *[(GLOBAL, f"Boot{chance.randrange(1 << 16):04{chance.choice('XXXx')}}")] * 5]
+    option_name = f"Boot{chance.randrange(1 << 16):04{chance.choice('XXXx')}}"
+    known = [*FLAGS, *LISTS, CERTIFICATE, LEVEL, LEVEL, *[(GLOBAL, "BootOrder")] * 3, *[(GLOBAL, option_name)] * 5]
     names = chance.choice([*known, *known, (chance.choice((GLOBAL, IMAGE_SECURITY, SHIM)), chance.choice(known)[1]), (IMAGE_SECURITY, word(chance))])
     name, fields = names[1].encode("utf-16-le"), value(chance, names)
     if chance.random() < 0.05:
         name = wide(chance)
-    return [UUID(names[0]).bytes_le, number(len(name) // 2, 8), number(size_of(fields), 8), name, *fields]
+    return [UUID(names[0]).bytes_le, number(len(name) // 2, 8), number(size_of(fields), 8), name, *fields, *rest(chance)]
 
 
 def authority(chance):
-    """A variable with one signature."""
+    """A variable with one signature, or with one certificate."""
     vendor, name = chance.choice(sorted(AUTHORITIES))
-    name, data = name.encode("utf-16-le"), chance.randbytes(chance.choice((0, 1, 30)))
-    return [UUID(vendor).bytes_le, number(len(name) // 2, 8), number(16 + len(data), 8), name, guid(chance), data]
+    name, hash_or_more = name.encode("utf-16-le"), chance.randbytes(chance.choice((0, 1, 30, 65, 80)))
+    signature = [guid(chance), chance.choice((hash_or_more, b"\x30" + hash_or_more[1:]))]
+    fields = chance.choice((signature, certificate(chance), [guid(chance), *certificate(chance)]))
+    return [UUID(vendor).bytes_le, number(len(name) // 2, 8), number(size_of(fields), 8), name, *fields, *rest(chance)]
 
 
 def partition(chance, size):
@@ -163,6 +190,20 @@ def described(chance):
     return [number(len(description), 1), description, *place(chance)]
 
 
+def technology(chance):
+    return [GOOGLE_HOST, chance.randbytes(1), bytes(RESERVED)]
+
+
+def tables(chance):
+    rows = [(UUID(chance.choice(sorted(TABLES))).bytes_le if chance.random() < 0.7 else guid(chance)) for _ in range(chance.choice((0, 1, 1, 2, 5)))]
+    return [number(len(rows), 8), *(field for row in rows for field in (row, number(chance.choice(BOUNDARIES), 8)))]
+
+
+def described_tables(chance):
+    description = chance.choice((word(chance).encode(), chance.randbytes(4)))
+    return [number(len(description), 1), description, *tables(chance)]
+
+
 def tagged(chance):
     data = chance.choice((b"".join(text(chance)), chance.randbytes(6), b"".join(wide_text(chance))))
     return [number(chance.getrandbits(32)), number(len(data)), data]
@@ -183,6 +224,13 @@ FORMS = (
     Form((0x80000008, 1), place),
     Form((0x8000000A, 0x13), described),
     Form((6,), tagged),
+    Form((6, *CONFIGURATIONS), text),
+    Form(CONFIGURATIONS, described),
+    Form((0x11,), technology),
+    Form((13,), lambda chance: [*text(chance), b"\0"]),
+    Form((13,), lambda chance: [*wide_text(chance), b"\0"]),
+    Form((0x80000009,), tables),
+    Form((0x8000000B,), described_tables),
     Form((EV_NO_ACTION,), lambda chance: [b"StartupLocality\0", chance.randbytes(1)]),
 )
 
@@ -214,7 +262,7 @@ def parts(chance, data):
     """Bytes of which a digest may be the hash."""
     yield data
     found = (variable_in(data), command_in(data))
-    yield from (part for part in (found[0] and found[0].value, found[1] and found[1].text) if part is not None)
+    yield from (part for part in (found[0] and found[0].value, found[1] and found[1].hashed) if part is not None)
     yield chance.choice((data[:-1], data[1:], b"", data + b"\0"))
 
 
@@ -251,20 +299,21 @@ def loader_text(chance):
     if chance.random() < 0.3:
         data = b"".join(wide_text(chance)) if chance.random() < 0.2 else text.encode("utf-16-le") + b"\0\0"
         return chance.choice((12, 12, 8)), data, data
-    return 8, chance.choice([*COMMANDS.values()]) + text.encode() + b"\0", text.encode()
+    prefix = chance.choice([*COMMANDS])
+    return 8, prefix + text.encode() + b"\0", text.encode() + (b"\0" if prefix == WITH_NUL else b"")
 
 
 def setting(chance):
-    """A variable in register 1."""
+    """A variable in register 1, of which mostly the value is hashed, also where bytes follow it."""
     data = b"".join(variable(chance))
-    found = variable_in(data)
-    return 1, data, found.value if found and chance.random() < 0.8 else data
+    found = read_front(read_variable, data)
+    return 1, data, found[0].value if found and chance.random() < 0.8 else data
 
 
 def policy(chance):
     """A variable in register 7, which may be SecureBoot."""
     name, flag = "SecureBoot".encode("utf-16-le"), chance.choice((b"\0", b"\1", b"\1", b"\2", b""))
-    secure_boot = b"".join([UUID(GLOBAL).bytes_le, number(len(name) // 2, 8), number(len(flag), 8), name, flag])
+    secure_boot = b"".join([UUID(GLOBAL).bytes_le, number(len(name) // 2, 8), number(len(flag), 8), name, flag, *rest(chance)])
     data = chance.choice((secure_boot, secure_boot, b"".join(variable(chance))))
     return 7, data, data
 
@@ -287,16 +336,22 @@ def separator(chance):
     return chance.choice((0, 1, 4, 7, 8, 12)), data, data
 
 
+# The makers of a boot's events, of which one comes twice, and the type that each has as a boot has it.
+MAKERS = ((loader_text, 13), (loader_text, 13), (setting, 0x80000002), (policy, 0x80000001), (version, 8), (program, 0x80000003), (separator, 4))
+
+
 def boot_event(chance, declared):
-    """An event as a boot has it, of which now and then another is shown, or another was hashed, in all banks or in one."""
-    register, data, hashed = chance.choice((loader_text, loader_text, setting, policy, version, program, separator))(chance)
+    """An event as a boot has it, of which now and then another is shown, or another was hashed, in all banks or in one; or one of another type."""
+    make, fitting = chance.choice(MAKERS)
+    register, data, hashed = make(chance)
     if chance.random() < 0.05:
         data = changed(chance, [data])
     if chance.random() < 0.05:
         hashed = b"other"
     digests = {identifier: digest(chance, identifier, size, hashed) if chance.random() < 0.1 else BY_IDENTIFIER[identifier].hash(hashed)
                for identifier, size in declared.items()}
-    return Event(register, chance.choice((1, 4, 5, 13, 0x80000001, 0x80000002, 0x80000003)), digests, data)
+    kind = fitting if chance.random() < 0.5 else chance.choice((1, 4, 5, 8, 13, 0x80000001, 0x80000002, 0x80000003))
+    return Event(register, kind, digests, data)
 
 
 def random_boots(chance, events):
@@ -338,7 +393,8 @@ def random_expected(chance, log, share=0.7):
 
 
 def random_quote(chance, log):
-    """A list that begins after the log, the message of a quote of both, now and then of other values, and the registers that have to be quoted."""
+    """A list that begins after the log, the message of a quote of both, now and then of other values, and the registers that have to be quoted: those
+    of one bank up to 10, and of what else is quoted perhaps some."""
     bank, *_ = banks = chance.sample(log.algorithms, len(log.algorithms))
     listed = [entry_of(IMA_NG, bank, log.registers().boot_aggregate(bank), BOOT_AGGREGATE)]
     after = before_a_list(log.registers()).following(listed).after
@@ -346,7 +402,8 @@ def random_quote(chance, log):
     selected = [(bank, (*range(11), *further_registers(chance))), *((it, further_registers(chance)) for it in others)]
     values = [after.value(it, register) for it, registers in selected for register in registers]
     values += [b"other"] if chance.random() < 0.1 else []
-    return list_spelling(listed), message_of(SHA256.hash(b"".join(values)), selected=selected), f"{bank.name}:0-10"
+    further = [f"{it.name}:{','.join(map(str, registers))}" for it, registers in selected if registers and chance.random() < 0.5]
+    return list_spelling(listed), message_of(SHA256.hash(b"".join(values)), selected=selected), "+".join([f"{bank.name}:0-10", *further])
 
 
 def further_registers(chance):

@@ -29,6 +29,7 @@ import reference  # noqa: E402
 from boots import NONCE  # noqa: E402
 from event_forms import random_boots, random_expected, random_log, random_quote  # noqa: E402
 from harness import ROOT  # noqa: E402
+from reference.event_texts import guid_text  # noqa: E402
 from reference.json_texts import json_text  # noqa: E402
 from reference.variable_values import OPTION_NAME  # noqa: E402
 
@@ -42,15 +43,17 @@ SAMPLES = [ROOT / "samples" / name for name in ("real-boot/firmware.log", "ovmf-
 EXPECTED = ["--expected", "expected"]
 QUOTED = ["--quote", "quote", "--list", "list", "--nonce", NONCE.hex(), "--sha1", "--require"]
 # What has to be among the answers: members of contents and of variables, and marks of explained events.
-MEMBERS = {"separator", "text", "text_hex", "guid", "command", "variable", "image", "gpt", "blob", "tagged", "locality", "unknown",
-           "name", "name_hex", "flag", "order", "option", "lists", "signature", "path", "path_hex", "description", "description_hex"}
+MEMBERS = {"separator", "text", "text_hex", "guid", "command", "variable", "image", "gpt", "blob", "tagged", "locality", "technology", "handoff",
+           "unknown", "name", "name_hex", "flag", "order", "option", "lists", "signature", "certificate", "certificates", "level", "rest", "tables",
+           "address", "path", "path_hex", "description", "description_hex"}
 MARKS = {"claimed", "confirmed data", "confirmed value", "confirmed command", "measured"}
-MARK = re.compile(r"^\d+ \d+ \w+ (claimed|confirmed \w+|measured)", re.MULTILINE)
+MARK = re.compile(r"^\d+ \d+(?: \([a-z-]+\))? \w+ (claimed|confirmed \w+|measured)", re.MULTILINE)
 # What has to be among the answers of `boot`, without their numbers, digests and JSON.
 ANSWERS = {"secure_boot on", "secure_boot off", "secure_boot unknown", "firmware_version", "firmware_version unknown", "image N", "image unknown",
            "command N N", "command unknown N", "command unknown N N", "ima_policy asked N", "ima_policy possible N",
            "ima_policy unknown", "boot_variable N", "boot_variable unknown", "register N alike all", "register N alike unknown",
-           "register N alike N", "register N now N", "register N before N"}
+           "register N alike N", "register N now N", "register N before N", "claimed all", "claimed N secure_boot on", "claimed N secure_boot off",
+           "claimed N firmware_version", "claimed N image", "claimed N command N", "claimed N boot_variable"}
 TOOL = "tpm2_eventlog"
 TOOL_TYPES = {"EV_EFI_VARIABLE_DRIVER_CONFIG", "EV_EFI_VARIABLE_BOOT", "EV_EFI_VARIABLE_BOOT2", "EV_EFI_VARIABLE_AUTHORITY",
               "EV_EFI_BOOT_SERVICES_APPLICATION", "EV_EFI_BOOT_SERVICES_DRIVER", "EV_EFI_RUNTIME_SERVICES_DRIVER", "EV_EFI_GPT_EVENT",
@@ -85,7 +88,7 @@ def told_in(words, text):
 
 def answers_in(text):
     """The answers of `boot` in its text, without their numbers, banks, digests and JSON."""
-    lines = (re.sub(r" (?:sha\d+ )?[0-9a-f]{64,}| sha\d+(?= alike)| claimed.*| {.*", "", line) for line in text.decode().splitlines())
+    lines = (re.sub(r" (?:sha\d+ )?[0-9a-f]{40,}| sha\d+(?= alike)| \([a-z-]+\)| claimed.*| {.*", "", line) for line in text.decode().splitlines())
     return [re.sub(r"\b\d+\b", "N", line) for line in lines]
 
 
@@ -106,7 +109,7 @@ def events_by(required):
 
 def boots_by(required):
     """Those of `boot`."""
-    return [["boot", *form, *confirming, *before, "log"] for form in ([], ["--json"]) for confirming in (EXPECTED, *by_quote(required))
+    return [["boot", *form, *confirming, *before, "log"] for form in ([], ["--json"]) for confirming in ([], EXPECTED, *by_quote(required))
             for before in ([], ["--before", "before"])]
 
 
@@ -185,6 +188,8 @@ def tool_content(kind, told):
 def tool_value(told):
     """What the tool says of the value of a variable, as the members that it has too."""
     value, name = told["VariableData"], told["UnicodeName"]
+    if name == "Shim":
+        return {}  # (the tool takes an owner from its first bytes)
     if name == "BootOrder":
         return {"order": [entry.removeprefix("Boot").lower() for entry in value]}
     if "Description" in value and not OPTION_NAME.fullmatch(name):
@@ -208,7 +213,13 @@ def program_says(line):
     [(form, says)] = line["content"].items()
     says = numbers_of(says)
     if form == "variable":
-        says.pop("value")
+        value, is_certificate = bytes.fromhex(says["value"]), "certificate" in says
+        says = {name: says[name] for name in says if name not in ("value", "rest", "level", "certificate")}
+        says.get("signature", {}).pop("certificate", None)
+        for each in says.get("lists", []):
+            each.pop("certificates", None)
+        if is_certificate and says["name"] != "Shim":  # (the tool takes an owner from its first bytes)
+            says["signature"] = {"owner": guid_text(value[:16]), "data": value[16:].hex()}
         if "flag" in says:
             says["flag"] = min(says["flag"], 1)
         if "option" in says:

@@ -256,6 +256,7 @@ def impossible(known):
     yield known._replace(entries=0, bytes=0, stated=None)
     yield nothing._replace(bytes=1)
     yield nothing._replace(stated=known.stated)
+    yield nothing._replace(told=known.stated)
     yield nothing._replace(after=known.after)
     yield known._replace(bytes=32 * known.entries - 1)
     yield known._replace(entries=known.bytes // 32 + 1)

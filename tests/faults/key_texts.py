@@ -239,6 +239,7 @@ class KeyTexts(harness.TestCase):
             for scheme, hash in product(key.schemes, HASHES):
                 others = ({}, {"exponent": 65537 if key.is_rsa else 0}, {"policy": bytes(32)}, {"name": 0xC}, {"strip": True})
                 variants = [key.area(scheme, hash, **other) for other in others]
+                variants.append(variants[0][2:])
                 for *by, is_plain, signature in made:
                     answer = self.answer_of([scheme, hash], by, is_plain)
                     wanted += [((area, MESSAGE, signature), answer) for area in (variants if answer == "valid" else variants[:1])]
@@ -261,6 +262,7 @@ class KeyTexts(harness.TestCase):
             lacking = [key.area(scheme, "sha256", attributes=areas.ATTESTING ^ 1 << bit) for bit in areas.TOLD_BITS]
             lacking += [key.area(None, None), key.area(scheme, "sha1"), key.area(scheme, "sha256", name=0x4), key.area(scheme, "sha256")[:-1],
                         key.area(scheme, "sha256") + b"\0", key.area(scheme, "sha256", attributes=areas.ENDORSING)]
+            lacking += [area[2:] for area in lacking]
             wanted += [((area, MESSAGE, signature), area_fault(area)) for area in lacking]
         self.check("each has its fault", [want for _, want in wanted if want is None], [])
         for key in (self.p521, large):

@@ -1,6 +1,7 @@
 #!/usr/bin/env python3
 """Compares what the library for C and `tests/reference/` answer on public areas of keys that are changed at random (areas.py): turned bits, cut
-and lengthened ones, fields that were exchanged, numbers at boundaries, attributes at random, and whole keys of many forms and sizes.
+and lengthened ones, fields that were exchanged, numbers at boundaries, attributes at random, and whole keys of many forms and sizes, each with its
+size before it or bare.
 
 tests/faults/keys.py [--areas N] [LIBRARY]: 5,000 areas, or so many, and a libima_verify.so; without it `dist/library` makes one, which builds
 what is not up to date.

@@ -189,7 +189,7 @@ static int inputs_of(const char *function) {
         int inputs;
     } functions[] = {{"verdict", 4},     {"locate", 4},   {"replay", 3},    {"more", 5},    {"attest", 5},
                      {"attest_more", 6}, {"expected", 2}, {"registers", 1}, {"entries", 1}, {"events", 1},
-                     {"boot", 1},        {"key", 1}};
+                     {"boot", 1},        {"key", 1},      {"convert", 1}};
     for (size_t i = 0; i < sizeof functions / sizeof functions[0]; i++)
         if (is(function, functions[i].name))
             return functions[i].inputs + 2 * has(function, ":by_key") + has(function, ":known") + has(function, ":before")
@@ -200,6 +200,8 @@ static int inputs_of(const char *function) {
 /* Gives a quote what comes after its requirement: a key and a signature, and known files. */
 static void add_last(const char *function, const struct ima_verify_bytes *last, struct ima_verify_quoted *quoted) {
     quoted->signature_checked = has(function, ":signed");
+    quoted->hcrtm = has(function, ":hcrtm");
+    quoted->old_kernel = has(function, ":old_kernel");
     if (has(function, ":by_key")) {
         quoted->key = *last++;
         quoted->signature = *last++;
@@ -233,8 +235,10 @@ static enum ima_verify_result call_confirmed(const char *function, const struct 
     struct ima_verify_quoted quoted = {.list = in[1], .message = in[2], .nonce = in[3], .require = in[4]};
     const struct ima_verify_quoted *quote = has(function, ":quote") ? &quoted : NULL;
     quoted.signature_checked = has(function, ":signed");
-    return position ? ima_verify_events(in[0], expected, quote, position, out)
-                    : ima_verify_boot(in[0], before, expected, quote, form_of(function), out);
+    quoted.old_kernel = has(function, ":old_kernel");
+    bool hcrtm = has(function, ":hcrtm");
+    return position ? ima_verify_events(in[0], hcrtm, expected, quote, position, out)
+                    : ima_verify_boot(in[0], hcrtm, before, expected, quote, form_of(function), out);
 }
 
 static enum ima_verify_result call(const char *function, const struct ima_verify_bytes *in, struct ima_verify_position *position,
@@ -245,8 +249,13 @@ static enum ima_verify_result call(const char *function, const struct ima_verify
         return ima_verify_entries(in[0], position, form, out);
     if (is(function, "events") || is(function, "boot"))
         return call_confirmed(function, in, position, out);
-    if (is(function, "registers"))
-        return ima_verify_registers(has(function, ":list") ? IMA_VERIFY_OF_LIST : IMA_VERIFY_OF_LOG, in[0], form, out);
+    bool hcrtm = has(function, ":hcrtm"), old_kernel = has(function, ":old_kernel");
+    if (is(function, "convert"))
+        return ima_verify_convert(in[0], has(function, ":list") ? IMA_VERIFY_CONVERT_LIST : IMA_VERIFY_CONVERT_LOG, NULL, out);
+    if (is(function, "registers")) {
+        enum ima_verify_origin of_log = hcrtm ? IMA_VERIFY_OF_HCRTM_LOG : IMA_VERIFY_OF_LOG;
+        return ima_verify_registers(has(function, ":list") ? IMA_VERIFY_OF_LIST : of_log, in[0], form, out);
+    }
     if (is(function, "key"))
         return ima_verify_key(in[0], has(function, ":endorsement") ? IMA_VERIFY_ENDORSEMENT : IMA_VERIFY_ATTESTATION, form, out);
     if (is(function, "expected"))
@@ -258,7 +267,8 @@ static enum ima_verify_result call(const char *function, const struct ima_verify
         return summed(&summary, ima_verify_replay(&evidence, form, &summary, out));
     }
     if (is(function, "more")) {
-        struct ima_verify_evidence evidence = {.log = in[0], .list = in[2], .expected = in[3], .require = in[4]};
+        struct ima_verify_evidence evidence = {.log = in[0], .list = in[2], .expected = in[3], .require = in[4], .hcrtm = hcrtm,
+                                               .old_kernel = old_kernel};
         if ((evidence.checks_known = has(function, ":known")))
             evidence.known = in[5];
         return summed(&summary, ima_verify_more(&evidence, in[1], has(function, ":prefix"), form, &summary, next, out));
@@ -273,7 +283,8 @@ static enum ima_verify_result call(const char *function, const struct ima_verify
         add_last(function, in + 6, &quoted);
         return summed(&summary, ima_verify_attest_more(&quoted, in[1], has(function, ":prefix"), form, &summary, next, out));
     }
-    struct ima_verify_evidence evidence = {.log = in[0], .list = in[1], .expected = in[2], .require = in[3]};
+    struct ima_verify_evidence evidence = {.log = in[0], .list = in[1], .expected = in[2], .require = in[3], .hcrtm = hcrtm,
+                                           .old_kernel = old_kernel};
     if ((evidence.checks_known = has(function, ":known")))
         evidence.known = in[4];
     if (is(function, "locate"))
@@ -310,7 +321,7 @@ static bool has_text(struct ima_verify_bytes text, const struct room *room, bool
 /* The error that a line says. */
 static struct ima_verify_error error_in(struct ima_verify_bytes line) {
     static const char *const kinds[] = {"", "command", "log", "list", "replay", "expected", "checkpoint", "", "quote", "key",
-                                        "known", "signature"};
+                                        "known", "signature", "text list", "log form"};
     struct ima_verify_error error = {IMA_VERIFY_NO_ERROR, 0, IMA_VERIFY_NO_PLACE};
     char text[LINE] = "", kind[LINE] = "";
     unsigned number = 0;
@@ -321,12 +332,15 @@ static struct ima_verify_error error_in(struct ima_verify_bytes line) {
         error.kind = has(text, "failed: memory") ? IMA_VERIFY_MEMORY : IMA_VERIFY_NO_ERROR;
         return error;
     }
-    int found = sscanf(said, "refused: %s fault %u at %*s %llu", kind, &number, &place);
+    said += strlen("refused: ");
+    const char *end = strstr(said, " fault ");
+    memcpy(kind, said, end == NULL ? strcspn(said, " \n") : (size_t)(end - said));
+    int found = end == NULL ? 0 : sscanf(end, " fault %u at %*s %llu", &number, &place);
     for (uint32_t i = 1; i < sizeof kinds / sizeof kinds[0]; i++)
         if (strcmp(kind, kinds[i]) == 0)
             error.kind = i;
     error.number = number;
-    if (found == 3)
+    if (found == 2)
         error.place = place;
     return error;
 }

@@ -24,13 +24,17 @@ from harness import PROGRAM, ROOT  # noqa: E402
 from header import VERSION, functions_of  # noqa: E402
 from reference.attestations import attest_report  # noqa: E402
 from reference.checkpoint import read_checkpoint  # noqa: E402
+from reference.log import read_log  # noqa: E402
+from reference.measurement_list import BOOT_AGGREGATE, IMA_NG, entry_of, list_spelling  # noqa: E402
+from reference.registers import SHA256  # noqa: E402
 from sweep import check_runs  # noqa: E402
 
 SECONDS = 60
 MEMORY = b"failed: memory\n"
 JSON_MEMORY = b'{"fault":{"kind":"memory","message":"failed: memory"}}\n'
 # The command of each function that has another name, and the option that the last of its inputs is the value of.
-COMMANDS = {"entries": "show", "verdict": "verify", "registers:list": "replay", "key:endorsement": "key --endorsement"}
+COMMANDS = {"entries": "show", "verdict": "verify", "registers:list": "replay", "key:endorsement": "key --endorsement", "convert:list": "list",
+            "convert:log": "log"}
 OPTIONS = {"verdict": "--require", "locate": "--require", "replay": "--require", "expected": "--registers"}
 # The program's status where nothing is attested, what it then prints of a quote or a signature that it refuses, and the library's results.
 NOT_ATTESTED, QUOTE_REFUSED = 4, re.compile(rb"refused: (?:quote|signature) fault")
@@ -58,8 +62,8 @@ class Case:
 
     @property
     def name(self):
-        """The function without the form, and without known digests."""
-        return self.function.replace(":json", "").replace(":known", "")
+        """The function without the form, known digests, an H-CRTM and an older kernel."""
+        return re.sub(":(json|known|hcrtm|old_kernel)", "", self.function)
 
     def is_json(self):
         """Whether the answer has this form, of which alone events are."""
@@ -79,7 +83,8 @@ class Case:
     def words(self, save):
         """What asks the program for the same, and to save a checkpoint, if there is one, in that file."""
         inputs, known = (self.inputs[:-1], [f"--known={self.inputs[-1]}"]) if ":known" in self.function else (self.inputs, [])
-        json = [*(["--json"] if self.is_json() else []), *known]
+        json = [*(["--json"] if self.is_json() else []), *known, *(["--hcrtm"] if ":hcrtm" in self.function else [])]
+        json += ["--old-kernel"] if ":old_kernel" in self.function else []
         flags = ["--prefix"] if ":prefix" in self.function else []
         flags += [f"--save={save}"] if self.is_more() else []
         if self.is_of("boot", "events"):
@@ -149,6 +154,16 @@ class Run:
         return f"ima_verify_{self.case.function} of {self.case.title}, {room}"
 
 
+def hcrtm_event():
+    """An event of an H-CRTM (EV_EFI_HCRTM_EVENT) in PCR 0, with a digest of SHA-256."""
+    return b"".join(value.to_bytes(size, "little") for value, size in ((0, 4), (0x80000010, 4), (1, 4), (11, 2), (7, 32), (0, 4)))
+
+
+def older_list(log):
+    """The list of a kernel before 5.8, whose boot aggregate is over PCRs 0 to 7 alone."""
+    return list_spelling([entry_of(IMA_NG, SHA256, read_log(log).registers().old_boot_aggregate(SHA256), BOOT_AGGREGATE)])
+
+
 def made_files(folder, program):
     """The sample's files, and files made of them, by name. The program makes the checkpoint."""
     boot = ROOT / "samples/real-boot"
@@ -166,6 +181,11 @@ def made_files(folder, program):
         "changed list": listed.replace(b"/bin/helper", b"/bin/helpex"),
         "cut list": listed[:-1],
         "early log": log[:300],
+        "padded log": log + bytes(9),
+        "H-CRTM's log": log + hcrtm_event(),
+        "older list": older_list(log),
+        "text list": (boot / "ima.ascii").read_bytes(),
+        "cut text list": (boot / "ima.ascii").read_bytes()[:-1],
         "first entries": listed[:THREE_ENTRIES_BYTES],
         "early list": listed[: THREE_ENTRIES_BYTES - 1],
         "prefix": listed[:PREFIX_BYTES],
@@ -389,6 +409,40 @@ CASES = (
     )),
     (("registers",), BOTH, (
         ("the real boot", "log"), ("one event", "one event"), ("a log that is cut short", "cut log"), ("an empty log", "empty"),
+    )),
+    (("verdict:hcrtm", "locate:hcrtm"), BOTH, (
+        ("an H-CRTM's log", "H-CRTM's log", "list", "expected", "all"), ("a log that is cut short", "cut log", "list", "expected", "none"),
+    )),
+    (("more:hcrtm",), ("",), (
+        ("an H-CRTM's log", "H-CRTM's log", "empty", "list", "expected", "none"),
+    )),
+    (("attest:signed:hcrtm",), ("",), (
+        ("an H-CRTM's log", "H-CRTM's log", "list", "message", "nonce", "low"),
+    )),
+    (("verdict:old_kernel",), BOTH, (
+        ("an older kernel's list", "log", "older list", "expected", "all"), ("a log that is cut short", "cut log", "older list", "expected", "all"),
+    )),
+    (("more:old_kernel",), ("",), (
+        ("an older kernel's list", "log", "empty", "older list", "expected", "all"),
+    )),
+    (("attest:signed:old_kernel",), ("",), (
+        ("an older kernel's list", "log", "older list", "message", "nonce", "low"),
+    )),
+    (("boot:quote:signed:old_kernel",), BOTH, (
+        ("an older kernel's list", "log", "older list", "message", "nonce", "low"),
+    )),
+    (("registers:hcrtm",), BOTH, (
+        ("an H-CRTM's log", "H-CRTM's log"), ("the real boot", "log"), ("an empty log", "empty"),
+    )),
+    (("boot:expected:hcrtm",), BOTH, (
+        ("an H-CRTM's log", "H-CRTM's log", "expected"),
+    )),
+    (("convert:list",), ("",), (
+        ("the real boot", "text list"), ("a last line that is cut short", "cut text list"), ("a binary list", "list"),
+    )),
+    (("convert:log",), ("",), (
+        ("the real boot", "log"), ("a log with padding", "padded log"), ("a log that is cut short", "cut log"), ("no log", "list"),
+        ("an empty log", "empty"),
     )),
     (("key", "key:endorsement"), BOTH, (
         ("an attestation key", "area"), ("a key of a curve", "area of a curve"), ("an endorsement key", "endorsement"),

@@ -190,9 +190,9 @@ def help_faults(runs):
 
 
 def json_faults(runs):
-    """What is wrong if not each command is among the runs with an output as JSON."""
+    """What is wrong if not each command that has JSON is among the runs with an output as JSON."""
     shown = {run.command.words[0] for run in runs if "--json" in run.command.words and run.command.status < 2}
-    return [f"no case has {word} --json" for word in COMMANDS if word not in shown]
+    return [f"no case has {word} --json" for word, command in COMMANDS.items() if "--json" in command.options and word not in shown]
 
 
 def tests_in(crate):

@@ -26,6 +26,8 @@ NUMBERED = {
     "boot_log LogFault": ("Log", "event"),
     "ima_list ListFault": ("List", "entry"),
     "ima_list ReplayFault": ("Replay", "entry"),
+    "list_imports ListImportFault": ("Text", "line"),
+    "log_imports LogImportFault": ("Form", "event"),
     "pcr_values ExpectFault": ("Expected", "line"),
     "known_files KnownFault": ("Known", "line"),
     "tpm_quotes QuoteFault": ("Quote", None),

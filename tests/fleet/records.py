@@ -66,7 +66,7 @@ class Workers:
 SECOND = '{"worker": "here", "answers": [{"places": ["/b"], "verdict": "refused", "time": "now"}], "seconds": 1}'
 async def run(table, *ended):
     verdicts = Verdicts(table, "none")
-    options = SimpleNamespace(in_flight=2, poll=False, require="none", unquoted=True, max_age=None, patience=600, deadline=60)
+    options = SimpleNamespace(in_flight=2, poll=False, require="none", unquoted=True, max_age=None, patience=600, deadline=60, hcrtm=False, old_kernel=False)
     ledger = Ledger(verdicts, [Machine(name, (f"/{name}",)) for name in "ab"[:len(ended)]], {}, False, lambda *_: None)
     try:
         await asyncio.wait_for(Run(Workers(*ended), ledger, SimpleNamespace(show=lambda *_: None), options).verify(), 20)

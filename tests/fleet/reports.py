@@ -19,13 +19,14 @@ from contextlib import suppress
 from pathlib import Path
 
 import inputs
+import tables
 from cluster import ROOT, SECONDS, until
 from harness import PROGRAM
 from page_tree import Reader, folded, foreign, hostile_texts, lacks_jinja, rows_below, state_of
 from reference.event_data import command_in, variable_in
 from reference.log import Event, read_log
 from reference.measurement_list import IMA_NG, Entry, entry_of, list_spelling, read_list
-from reference.registers import SHA1, SHA256
+from reference.registers import SHA1, SHA256, register_words
 
 SAMPLES = ROOT / "samples"
 REAL, QUOTED = SAMPLES / "real-boot", SAMPLES / "quoted"
@@ -69,6 +70,21 @@ for size in (400, 401, 16384, 16385):
     print(size, "<details>" in shown, shown.rpartition(">n")[2].count("n") + 1, "cut here" in shown)
 """
 FOLDS_WANTED = ["400 False 400 False", "401 True 401 False", "16384 True 16384 False", "16385 True 16384 True"]
+# Reads names from a certificate of a log of which each byte in turn is another, or which is cut there, and then says that it is done.
+DAMAGED = """
+import sys
+from pathlib import Path
+from fleet_verify.certificates import names_in, with_names
+log = Path(sys.argv[1]).read_bytes()
+place = log.index(b"\\x30\\x82")
+whole = log[place : place + 4 + int.from_bytes(log[place + 2 : place + 4], "big")]
+assert isinstance(names_in(whole), (dict, str))
+for place in range(len(whole)):
+    for damaged in (whole[:place], whole[:place] + bytes([whole[place] ^ 0x81]) + whole[place + 1 :]):
+        names_in(damaged)
+        with_names({"variable": {"value": damaged.hex(), "lists": []}})
+print("done")
+"""
 # Have a process be slow where it starts a program, and where it begins to watch its time.
 LINGERING = {
     ", as the program starts": """
@@ -211,7 +227,7 @@ def test_whole_report(tools, folder):
     wanted = (f"after event {last}", "at reset", f"after all {len(measurements)} entries")
     tools.check("where their values are reached", (places[0], places[8], places[10]), wanted)
     events = rows_below(page, "Events of the firmware log")
-    tools.check("its events", [row[:2] for row in events], [[str(number), str(event.register)] for number, event in enumerate(log.events, 1)])
+    tools.check("its events", [row[:2] for row in events], [[str(number), register_words(event.register)] for number, event in enumerate(log.events, 1)])
     first = next(row for row in events if "SecureBoot" in row[4])
     tools.check("what an event says, and what of it is confirmed", ("confirmed data" in first[3], "flag0" in first[4]), (True, True))
     tools.check("what is only claimed", {row[3] for row in events if row[2] == "EV_EFI_BOOT_SERVICES_APPLICATION"}, {"claimed"})
@@ -271,10 +287,15 @@ def test_two_known(tools, folder, boot):
 def test_report_states(tools, folder):
     """The status is the program's, and only a match looks like one."""
     log, measurements, _ = ((REAL / file).read_bytes() for file in FILES)
+    hcrtm, older = (dict(zip(("firmware", "ima", "expected"), files)) for files in (tables.files_after_hcrtm(), tables.files_of_an_older_kernel()))
     calls, wanted = [], []
     for title, changes, words, status, verdict, told in (
         ("a longer list", {"ima": measurements + measurements[-95:]}, (), 1, "differ", "sha256 PCR 10: differ"),
         ("a longer list, and its prefix", {"ima": measurements + measurements[-95:]}, ("--prefix",), 0, "match", "Verdict"),
+        ("an H-CRTM", hcrtm, ("--hcrtm",), 0, "match", "Verdict"),
+        ("an H-CRTM that nobody asked for", hcrtm, (), 1, "differ", "sha256 PCR 0: differ"),
+        ("an older kernel", older, ("--old-kernel",), 0, "match", "Verdict"),
+        ("an older kernel that nobody asked for", older, (), 1, "differ", "The boot aggregate is wrong."),
         ("a register that is missing", {}, ("--require", "sha256:0-10,sha1:10"), 1, "differ", "sha1 PCR 10: missing"),
         ("a changed entry", {"ima": measurements.replace(b"/bin/helper", b"/bin/helpex")}, (), 2, "refused", "replay fault 1 at entry 5"),
         ("a log that is cut", {"firmware": log[:-1]}, (), 2, "refused", "log fault 1 at event 24"),
@@ -296,7 +317,21 @@ def test_report_states(tools, folder):
     changed = rows_below(report_of(tools, folder / "a changed entry")[1], "Entries of the measurement list")
     tools.check("a boot: which entry was changed", [row[0] for row in changed if "does not match" in row[2]], ["5"])
     test_unconfirmed_entries(tools, folder)
+    test_claims(tools, folder)
     tools.check("a boot: nothing is confirmed where it is refused", [row[0] for row in changed if "confirmed" in row[2]], [])
+
+
+def test_claims(tools, folder):
+    """Where nothing confirms, what the log claims is only claimed. The names in certificates are those that these say, and damaged ones have none."""
+    log = (SAMPLES / "ovmf-boot/secure-boot.log").read_bytes()
+    status, page, _ = report_of(tools, make_boot(folder / "claims", firmware=log, expected=None))
+    rows = rows_below(page, "What the machine booted")
+    found = (status, judged(page), rows[0], {row[1] for row in rows}, [row[2:] for row in rows if row[0] == "secure boot"])
+    tools.check("a boot of claims", found, (3, ("failed", False), ["all of this", "", "confirmed by nothing", ""], {""}, [["on", "4"]]))
+    named = [row[0] for row in rows_below(page, "Events of the firmware log") if "CN=Debian Secure Boot CA" in row[4] or "not installed" in row[4]]
+    tools.check("a boot of claims: names in certificates", named in (["30"], ["5", "6", "7", "23", "30"]), True)
+    said = tools.start(["-c", DAMAGED, str(SAMPLES / "ovmf-boot/secure-boot.log")], PYTHONPATH=str(ROOT / "fleet")).communicate(timeout=SECONDS)[0]
+    tools.check("damaged certificates", said.split(), ["done"])
 
 
 def test_unconfirmed_entries(tools, folder):
@@ -475,7 +510,7 @@ def test_broken_list(tools, folder):
             continue
         differing = [[*row[1:3], row[4]] for row in rows_below(page, "PCRs") if row[2] != "match"]
         booted = {row[0]: row[1] for row in rows_below(page, "What the machine booted")}
-        seventh = {row[3] for row in rows_below(page, "Events of the firmware log") if row[1] == "7"}
+        seventh = {row[3] for row in rows_below(page, "Events of the firmware log") if row[1] == "7 (secure-boot-policy)"}
         found = (differing, booted["secure boot"], seventh)
         tools.check(f"a list {title}: it confirms nothing", found, ([["7", "differ", "nowhere"]], "unknown", {"claimed"}))
     test_broken_and_quoted(tools, folder, data, quoted)
@@ -531,8 +566,8 @@ def test_differences(tools, folder):
     (table,) = (each for each in page.all("div") if each.attributes.get("aria-labelledby") == "before")
     rows = [[cell.text for cell in row.inner if not isinstance(cell, str)][:3] for row in table.all("tr")][1:]
     logs = [read_log((ovmf / f"{name}.log").read_bytes()) for name in ("secure-boot", "systemd-boot")]
-    wanted = {str(register): said_of(*(digests_of(log, register) for log in logs)) for register in range(24) if register != 14}
-    wanted = {**{register: text for register, text in wanted.items() if text}, "14": "unknown: no value confirms the PCR"}
+    wanted = {register_words(register): said_of(*(digests_of(log, register) for log in logs)) for register in range(24) if register != 14}
+    wanted = {**{register: text for register, text in wanted.items() if text}, "14 (shim-policy)": "unknown: no value confirms the PCR"}
     events = [row for row in rows if re.fullmatch(r"(now|before): event \d+", row[1])]
     found = {register: text for register, text, *_ in (row for row in rows if row not in events)}
     tools.check("differences from an earlier boot", (status, found), (0, wanted))
@@ -550,17 +585,17 @@ def events_apart(now, before):
                 digest = event.digests[SHA256.identifier]
                 if more[digest]:
                     more[digest] -= 1
-                    yield [str(register), f"{when}: event {number}", digest.hex()]
+                    yield [register_words(register), f"{when}: event {number}", digest.hex()]
 
 
 def test_booted(tools, page, log):
     """What was booted: the texts of commands and the values of boot variables are confirmed, and what a command is of, which policy it asks for, and
     the names of variables are only claimed."""
-    rows, named = rows_below(page, "What the machine booted"), ("command, PCR 8", "command, PCR 12", "ima policy")
+    rows, named = rows_below(page, "What the machine booted"), ("command, PCR 8", "command, PCR 12 (kernel-config)", "ima policy")
     commands = [(number, command_in(event.data)) for number, event in numbered(log, 8)]
     wanted = [["command, PCR 8", command.text.decode(), f"kind{command.kind}", str(number)] for number, command in commands]
     asking = next(number for number, command in commands if b"ima_policy=tcb" in command.text)
-    wanted += [["command, PCR 12", "unknown", "", ""], ["ima policy", "", "asked", str(asking)]]
+    wanted += [["command, PCR 12 (kernel-config)", "unknown", "", ""], ["ima policy", "", "asked", str(asking)]]
     tools.check("what it booted: commands", [row for row in rows if row[0] in named], wanted)
     rows = [row[1:] for row in rows if row[0] == "boot variable"]
     variables = [(str(number), variable_in(event.data)) for number, event in numbered(log, 1) if event.type == EV_EFI_VARIABLE_BOOT]

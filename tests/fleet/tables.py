@@ -1,9 +1,33 @@
-"""What a table of verdicts has, for the tests."""
+"""What a table of verdicts has, and the files of machines with an H-CRTM or an older kernel, for the tests."""
 
 import sqlite3
 from contextlib import closing
 
+import inputs
 from cluster import REQUIRE, SECONDS
+from reference.log import STARTUP_LOCALITY, Event
+from reference.measurement_list import BOOT_AGGREGATE, IMA_NG, entry_of, list_spelling
+from reference.registers import SHA256
+
+EV_EFI_HCRTM_EVENT = 0x80000010
+
+
+def files_after_hcrtm():
+    """The log of a machine whose H-CRTM measured before its firmware, without an event that tells so; its list and its registers."""
+    made = inputs.made_log([SHA256], 12)
+    events = [Event(0, EV_EFI_HCRTM_EVENT, {SHA256.identifier: SHA256.hash(b"H-CRTM")}, b"HCRTM"), *made.events[1:]]
+    told = made._replace(events=[made.events[0]._replace(data=STARTUP_LOCALITY + b"\4"), *events])
+    entries = inputs.made_entries(told, inputs.made_measurements(2))
+    expected = inputs.expected_text(inputs.expected_after(told, entries)[:11])
+    return made._replace(events=events).spelling(), list_spelling(entries), expected
+
+
+def files_of_an_older_kernel():
+    """A log, the list of a kernel before 5.8, whose boot aggregate is over PCRs 0 to 7 alone, and the registers."""
+    log = inputs.made_log([SHA256], 12)
+    aggregate = entry_of(IMA_NG, SHA256, log.registers().old_boot_aggregate(SHA256), BOOT_AGGREGATE)
+    entries = [aggregate, *inputs.made_entries(log, inputs.made_measurements(2))[1:]]
+    return log.spelling(), list_spelling(entries), inputs.expected_text(inputs.expected_after(log, entries)[:11])
 
 
 def query(table, text, *values):
@@ -26,7 +50,7 @@ def record_beside(table, name, verdict):
     with closing(sqlite3.connect(table, timeout=SECONDS)) as connection, connection:
         connection.execute("BEGIN IMMEDIATE")
         (number,) = connection.execute("SELECT ifnull(max(number), 0) + 1 FROM found").fetchone()
-        text = "INSERT INTO found (number, machine, verdict, required, log, list, expected) VALUES (?, ?, ?, ?, '', '', '')"
+        text = "INSERT INTO found (number, machine, verdict, required, hcrtm, old_kernel, log, list, expected) VALUES (?, ?, ?, ?, 0, 0, '', '', '')"
         connection.execute(text, (number, name, verdict, REQUIRE))
         connection.execute("INSERT INTO given (number, time) VALUES (?, 'now')", (number,))
 

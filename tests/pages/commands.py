@@ -44,6 +44,7 @@ RUN = [
     ("docs/cli.md", "$", "", RECIPES),
     ("docs/cli.md", "sh", "ima-agent measure", RECIPES),
     ("docs/json.md", "$", "", RECIPES),
+    ("docs/json.md", "sh", "pcclient_std", RECIPES),
     ("docs/calls.md", "rust", "", "tests/pages/quotes.py"),  # (what `./check` proves)
     *(("docs/library.md", language, "", LIBRARY) for language in ("python", "go", "rust", "c")),
     ("docs/fleet.md", "sh", "", FLEET),  # (which sees that it runs each, but for the one of a system's packages, which is of tests/dist/test)

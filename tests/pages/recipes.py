@@ -1,5 +1,5 @@
 #!/usr/bin/env python3
-"""Runs the recipes of attest.md, investigate.md and cli.md, as they are on the pages, on lists and logs that try to evade them; and the
+"""Runs the recipes of attest.md, investigate.md, cli.md and json.md, as they are on the pages, on lists and logs that try to evade them; and the
 examples of these pages, json.md and README, which must print what is below them.
 
 tests/pages/recipes.py PROGRAM: the program that is installed as `ima-agent`. A recipe must show what is due as JSON, by `tests/reference/`. It
@@ -22,7 +22,7 @@ from harness import ROOT  # noqa: E402
 from reference.fields import with_length  # noqa: E402
 from reference.log import EV_NO_ACTION, read_log  # noqa: E402
 from reference.measurement_list import IMA, IMA_NG, IMA_SIG, VIOLATION, Entry, entry_of, list_spelling, replay  # noqa: E402
-from reference.registers import BY_NAME, SHA1  # noqa: E402
+from reference.registers import ALGORITHMS, BY_NAME, SHA1  # noqa: E402
 
 [PROGRAM] = (Path(name).resolve() for name in sys.argv[1:])
 PAGES = "docs/attest.md", "docs/investigate.md", "docs/cli.md", "docs/json.md"
@@ -31,7 +31,7 @@ EXAMPLES = re.compile(r"(?:^    \$ .*\n(?:^    .*\n)*)", re.MULTILINE)
 EXAMPLE = re.compile(r"^\$ ((?:.*\\\n)*.*)\n((?:(?!\$ ).*\n)*)", re.MULTILINE)
 # What only the recipe's block has.
 JUDGE, TAKE, EVENTS = '--known "$known"', "--argjson confirmed", "diff before.events"
-AGGREGATE = "--arg aggregate"
+AGGREGATE, RECORDS = "--arg aggregate", "pcclient_std"
 JUDGED, MEASURED = "ima-agent verify --require sha256:0-10 firmware.log ima.list expected.txt", "--files-from names"
 ALONE, LOCATED, CONVERTED = "ima-agent replay", "ima-agent locate", "ima-agent expected"
 
@@ -351,6 +351,28 @@ class Recipes(harness.TestCase):
             self.check(what, self.fails(EVENTS, files))
             self.check(f"{what}, and events that a machine sent", self.fails(EVENTS, files | {"before.events": b"", "firmware.events": b""}))
         self.check("a program that dies", self.fails(EVENTS, {"kept/firmware.log": whole, "firmware.log": whole}, DYING))
+
+    def test_records(self):
+        """the events as a TCG Canonical Event Log (CEL 1.0, JSON), and as records of systemd-pcrlock(8)"""
+        two_banks = read_log((ROOT / "samples/ovmf-boot/secure-boot.log").read_bytes())
+        silent = LOG.events[0]._replace(type=EV_NO_ACTION, register=77)
+        for what, log in (("the sample", LOG), ("two banks", two_banks), ("no event", LOG._replace(events=[])),
+                          ("an event that extends nothing", LOG._replace(events=[LOG.events[0], silent, *LOG.events[1:]]))):
+            extended = [event for event in log.events if event.is_extended]
+            records = [{"pcr": event.register, "digests": [{"hashAlg": it.name, "digest": event.digest_of(it).hex()} for it in ALGORITHMS
+                                                           if it.identifier in event.digests]} for event in extended]
+            contents = [{"event_type": event.type, "event_data": event.data.hex()} for event in extended]
+            logged = [{"recnum": number, **record, "content_type": "pcclient_std", "content": content}
+                      for number, (record, content) in enumerate(zip(records, contents))]
+            done = self.ran(RECORDS, {"firmware.log": log.spelling()})
+            made = [json.loads((self.sent / f"firmware.{name}").read_text()) for name in ("cel", "pcrlock")]
+            self.check(what, (done, made), ((0, b""), [logged, {"records": records}]))
+        left = {"events.json": b"{}\n{}\n", "firmware.cel": b"[]", "firmware.pcrlock": b"{}"}
+        for what, data in (("a cut log", LOG.spelling()[:-1]), ("an empty log", b""), ("no log", None)):
+            files = {} if data is None else {"firmware.log": data}
+            self.check(what, self.fails(RECORDS, files))
+            self.check(f"{what}, and files that a machine sent", self.fails(RECORDS, files | left))
+        self.check("a program that dies", self.fails(RECORDS, {"firmware.log": LOG.spelling()}, DYING))
 
     def test_aggregated(self):
         """whether the first entry of a list of another template states the boot aggregate of a log"""

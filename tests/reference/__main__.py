@@ -5,7 +5,7 @@ import sys
 from . import Unanswered, answer
 
 # (only without words is all of standard input read first: a command may name it, or not need it)
-standard_input = sys.stdin.buffer.read() if len(sys.argv) == 1 or "/dev/stdin" in sys.argv else b""
+standard_input = sys.stdin.buffer.read() if len(sys.argv) == 1 or not {"-", "/dev/stdin"}.isdisjoint(sys.argv[1:]) else b""
 try:
     status, text = answer(sys.argv[1:], ".", standard_input)
 except Unanswered as cause:

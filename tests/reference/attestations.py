@@ -9,7 +9,7 @@ from .measurement_list import IMA_REGISTER, read_list, read_prefix
 from .quotes import Quote, QuoteFault, read_quote
 from .registers import ALGORITHMS, REGISTERS, SHA1
 from .texts import read_expected, read_requirement
-from .verdict import Report, boot_aggregate_state, confirmed_prefix, prefix_report, report_at, strays_in
+from .verdict import GOOD, Report, Rule, boot_aggregate_state, confirmed_prefix, prefix_report, report_at, strays_in
 
 LEAST_NONCE = 16
 # What is known of a quote's signature, in the words of a report: nothing, that the caller verified it, or that it was verified here.
@@ -61,7 +61,7 @@ def require_apart(log, end):
         raise NotAttested("LogExtends", number) if word == "event" else NotAttested("ListExtends", number, register)
 
 
-def attest(log, measurements, message, nonce, required, takes_sha1=False):
+def attest(log, measurements, message, nonce, required, takes_sha1=False, rule=Rule()):
     """What is known of the bytes of a log, a list and a quote; or the first fault of these, or what is against it."""
     require_sound(nonce, required, takes_sha1)
     quote = read_quote(message)
@@ -69,7 +69,7 @@ def attest(log, measurements, message, nonce, required, takes_sha1=False):
     boot, entries = read_log(log), read_list(measurements)
     end = before_a_list(boot.registers()).following(entries)
     require_apart(boot, end)
-    if boot_aggregate_state(end.before, end.stated) != "good":
+    if boot_aggregate_state(end, rule) not in GOOD:
         raise NotAttested("BadAggregate")
     if not quote.is_of(end.after.value):
         raise NotAttested("Differs")
@@ -193,31 +193,31 @@ def read_state(text, quote):
     return start
 
 
-def is_confirmed(prefix, quote):
-    """Whether the boot aggregate of a prefix is good, and the quote is of the registers after it."""
-    return boot_aggregate_state(prefix.before, prefix.stated) == "good" and quote.is_of(prefix.after.value)
+def is_confirmed(prefix, quote, rule):
+    """Whether the boot aggregate of a prefix is good by a rule, and the quote is of the registers after it."""
+    return boot_aggregate_state(prefix, rule) in GOOD and quote.is_of(prefix.after.value)
 
 
-def quoted_report(boot, start, entries, fault, quote, signature, prefix, stated):
+def quoted_report(boot, start, entries, fault, quote, signature, prefix, stated, takes_old=False):
     """The report by a quote on what a list has from a checkpoint on: entries, and the fault that ends them, or None. It is on the shortest prefix
     that the quote confirms, if that is sought and there is one; else on the whole list, or its fault is raised. What extends a register that
     is not its own is told by the report."""
-    is_stated, rows = stated
-    end = confirmed_prefix(start, entries, lambda part: is_confirmed(part, quote)) if prefix else None
+    (is_stated, rows), rule = stated, Rule(True, takes_old)
+    end = confirmed_prefix(start, entries, lambda part: is_confirmed(part, quote, rule)) if prefix else None
     if end:
-        report = prefix_report(boot, end, start, entries, fault, rows)
+        report = prefix_report(boot, end, start, entries, fault, rows, rule=rule)
     elif fault:
         raise fault
     else:
         end = start.following(entries)
-        report = report_at(boot, end, rows)
+        report = report_at(boot, end, rows, rule=rule)
     strays = strays_in(boot.events, end.stray)
-    report = report._replace(strays=strays, matches=is_confirmed(end, quote) and not strays)
+    report = report._replace(strays=strays, matches=is_confirmed(end, quote, rule) and not strays)
     return AttestReport(quote, report, is_stated, quote.is_of(end.after.value), signature, end)
 
 
 def attest_report(log, measurements, message, nonce, require, takes_sha1=False, signature=CHECKED, state=None, prefix=False,
-                  expected=None):
+                  expected=None, takes_old=False):
     """The report by a quote on the bytes of a log and of a list, or of what follows the checkpoint that `state` is, where `require` is a text, and
     `expected` a text or None; or the fault that comes first."""
     quote = asked_quote(message, nonce, sound_requirement(require, nonce, takes_sha1))
@@ -228,4 +228,4 @@ def attest_report(log, measurements, message, nonce, require, takes_sha1=False, 
     start = start or before_a_list(before)
     if start.before.banks != before.banks:
         raise CheckpointFault.OTHER_BOOT.fault()
-    return quoted_report(boot, start, *read_prefix(measurements, start.entries), quote, signature, prefix, stated)
+    return quoted_report(boot, start, *read_prefix(measurements, start.entries), quote, signature, prefix, stated, takes_old)

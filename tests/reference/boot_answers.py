@@ -4,15 +4,15 @@ give."""
 import re
 from typing import NamedTuple
 
-from .event_data import UNKNOWN, command_in, content_of, variable_in
-from .event_texts import decoded, guid_text, text_member, wide_member
+from .event_data import UNKNOWN, command_in, content_of, read_variable, variable_in
+from .event_texts import decoded, guid_text, read_front, text_member, wide_member
 from .fields import number
 from .json_texts import json_text, unsteered
 from .measured_data import COMMANDS_REGISTER, SETTINGS_REGISTER, is_measured
-from .registers import ALGORITHMS, REGISTERS, SHA1
+from .registers import ALGORITHMS, REGISTERS, SHA1, register_members, register_words
 from .variable_values import GLOBAL, OPTION_NAME
 
-EV_S_CRTM_VERSION, EV_EFI_VARIABLE_BOOT = 8, 0x80000002
+EV_S_CRTM_VERSION, EV_IPL, EV_EFI_VARIABLE_BOOT = 8, 0xD, 0x80000002
 FIRMWARE_REGISTER, IMAGES_REGISTER, POLICY_REGISTER = 0, 4, 7
 # How many events of each log are compared after the first in which they differ.
 MOST_COMPARED = 256
@@ -119,14 +119,15 @@ class Boot(NamedTuple):
     def command_lines(self, register):
         told, ended = self.texts(register)
         if not self.is_answered(register):
-            yield Line(f"command unknown {register}", {"command": "unknown", "register": register})
+            yield Line(f"command unknown {register_words(register)}", {"command": "unknown", **register_members(register)})
             return
         for place, text in told:
             members = text.members()
             claimed = {"claimed": text.claimed} if text.claimed else {}
-            yield Line(f"command {place} {register} {shown(members)}", {"command": place, "register": register, **members, **claimed})
+            value = {"command": place, **register_members(register), **members, **claimed}
+            yield Line(f"command {place} {register_words(register)} {shown(members)}", value)
         if ended is not None:
-            yield Line(f"command unknown {register} {ended}", {"command": "unknown", "register": register, "event": ended})
+            yield Line(f"command unknown {register_words(register)} {ended}", {"command": "unknown", **register_members(register), "event": ended})
 
     def policy_line(self):
         texts = [(place, text.ascii) for register in COMMAND_REGISTERS for place, text in self.texts(register)[0]]
@@ -157,27 +158,57 @@ class Boot(NamedTuple):
 
     def register_lines(self, register, before):
         now, earlier, banks = self.events(register), extended_events(before, register), self.banks(register)
+        words, members = f"register {register_words(register)}", register_members(register)
         if not (now or earlier):
             return
         if not banks:
-            yield Line(f"register {register} alike unknown", {"register": register, "alike": "unknown"})
+            yield Line(f"{words} alike unknown", {**members, "alike": "unknown"})
             return
         places = ((bank, first_difference(bank, now, earlier)) for bank in banks)
         bank, alike = next(((bank, place) for bank, place in places if place is not None), (None, None))
         if bank is None:
-            yield Line(f"register {register} alike all", {"register": register, "alike": "all"})
+            yield Line(f"{words} alike all", {**members, "alike": "all"})
             return
-        yield Line(f"register {register} {bank.name} alike {alike}", {"register": register, "bank": bank.name, "alike": alike})
+        yield Line(f"{words} {bank.name} alike {alike}", {**members, "bank": bank.name, "alike": alike})
         for name, events in zip(("now", "before"), differing(bank, now[alike:], earlier[alike:])):
             yield from (event_line(register, name, bank, *numbered) for numbered in events)
+
+
+def claim_lines(log):
+    """What the events of a log claim of a boot, each in a line: nothing confirms it."""
+    claims = [(place, claim) for place, event in enumerate(log.events, 1) for claim in claims_of(event)]
+    lines = [Line(f"claimed {place} {claim.text}", {"claimed": {"event": place, **claim.value}}) for place, claim in claims]
+    return [Line("claimed all", {"claimed": "all"}), *lines]
+
+
+def claims_of(event):
+    """What an event claims: one claim, or none."""
+    content = content_of(event.type, event.data)
+    if content == UNKNOWN:
+        return
+    variable, _rest = read_front(read_variable, event.data) if "variable" in content else (None, b"")
+    if variable and (guid_text(variable.guid), decoded(variable.name, "utf-16-le")) == (GLOBAL, "SecureBoot"):
+        state = {b"\1": "on", b"\0": "off"}.get(variable.value)
+        if state:
+            yield Line(f"secure_boot {state}", {"secure_boot": state})
+    elif variable and is_of_boot(variable):
+        yield Line(f"boot_variable {shown(content)}", {"boot_variable": content})
+    elif "image" in content:
+        digests = {bank.name: event.digest_of(bank).hex() for bank in ALGORITHMS if bank.identifier in event.digests}
+        words = "".join(f"{name} {digest} " for name, digest in digests.items())
+        yield Line(f"image {words}{shown(content)}", {"digests": digests, "image": content})
+    elif event.type == EV_S_CRTM_VERSION:
+        yield Line(f"firmware_version {shown(content)}", {"firmware_version": content})
+    elif event.type == EV_IPL and event.register in COMMAND_REGISTERS:
+        yield Line(f"command {register_words(event.register)} {shown(content)}", {**register_members(event.register), "command": content})
 
 
 def event_line(register, name, bank, place, event):
     """The line of an event that one of two logs has."""
     content = content_of(event.type, event.data)
     digest = event.digests[bank.identifier].hex() if bank.identifier in event.digests else None
-    words = [f"register {register} {name} {place}", *([digest] if digest else []), f"claimed {shown(content)}"]
-    return Line(" ".join(words), {"register": register, name: place, **({"digest": digest} if digest else {}), "claimed": content})
+    words = [f"register {register_words(register)} {name} {place}", *([digest] if digest else []), f"claimed {shown(content)}"]
+    return Line(" ".join(words), {**register_members(register), name: place, **({"digest": digest} if digest else {}), "claimed": content})
 
 
 def extended_events(log, register):
@@ -211,7 +242,7 @@ def may_be_image(event, bank):
 def text_by(bank, event):
     """The text that an event told by a bank: a command of GRUB, or a text in units of two bytes; or None."""
     command = command_in(event.data) if event.register == COMMANDS_REGISTER else None
-    if command and is_measured(event, bank, command.text):
+    if command and is_measured(event, bank, command.hashed):
         return Told(command.text, "utf-8", {"kind": command.kind})
     is_wide = len(event.data) % 2 == 0 and event.data.endswith(b"\0\0")
     return Told(event.data[:-2], "utf-16-le", {}) if is_wide and is_whole(event, bank) else None

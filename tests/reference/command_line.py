@@ -8,6 +8,7 @@ from .registers import BY_NAME
 
 FLAG = None
 KNOWN = "--known"
+OLD_KERNEL = "--old-kernel"
 EXPLAIN = "--explain"
 # An option of one letter, and its name.
 SHORT = {"0": "--null"}
@@ -61,12 +62,16 @@ def number_within(least, most):
 BESIDE_QUOTE = {"--list": Option(str, None), "--nonce": Option(str, None), "--require": Option(str, None)}
 # By what a quote's signature is known to be valid, or by whose word.
 SIGNING = {"--key": Option(str, None), "--signature": Option(str, None), "--signature-checked": Option(FLAG, False)}
-ONLY_BESIDE_QUOTE = {**BESIDE_QUOTE, "--sha1": Option(FLAG, False), **SIGNING}
+ONLY_BESIDE_QUOTE = {**BESIDE_QUOTE, "--sha1": Option(FLAG, False), OLD_KERNEL: Option(FLAG, False), **SIGNING}
 # What tells which data of a log is confirmed.
 CONFIRMING = {"--expected": Option(str, None), "--quote": Option(str, None), **ONLY_BESIDE_QUOTE}
 
+# Whether the H-CRTM event of a log tells where the machine started.
+HCRTM = {"--hcrtm": Option(FLAG, False)}
+
 COMMANDS = {
     "measure": Command(1, None, {
+        **HCRTM,
         "--alg": Option(one_of(*BY_NAME), "sha256"),
         "--template": Option(one_of("ima", "ima-ng", "ima-sig"), "ima-ng"),
         "--workers": Option(number_within(1, 8), 2),
@@ -77,7 +82,9 @@ COMMANDS = {
         "--json": Option(FLAG, False),
     }),
     "verify": Command(3, 3, {
+        **HCRTM,
         "--require": Option(str, None),
+        OLD_KERNEL: Option(FLAG, False),
         KNOWN: Option(str, [], is_repeated=True),
         "--prefix": Option(FLAG, False),
         "--save": Option(str, None),
@@ -86,10 +93,12 @@ COMMANDS = {
         "--json": Option(FLAG, False),
     }),
     "attest": Command(3, 4, {
+        **HCRTM,
         "--nonce": Option(str, None, is_required=True),
         "--require": Option(str, None, is_required=True),
         KNOWN: Option(str, [], is_repeated=True),
         "--sha1": Option(FLAG, False),
+        OLD_KERNEL: Option(FLAG, False),
         **SIGNING,
         "--prefix": Option(FLAG, False),
         "--save": Option(str, None),
@@ -97,26 +106,30 @@ COMMANDS = {
         EXPLAIN: Option(FLAG, False),
         "--json": Option(FLAG, False),
     }),
-    "locate": Command(3, 3, {"--require": Option(str, None), EXPLAIN: Option(FLAG, False), "--json": Option(FLAG, False)}),
+    "locate": Command(3, 3, {**HCRTM, "--require": Option(str, None), EXPLAIN: Option(FLAG, False), "--json": Option(FLAG, False)}),
     "expected": Command(1, 1, {"--registers": Option(str, "all"), "--json": Option(FLAG, False)}),
     "key": Command(1, 1, {
         "--endorsement": Option(FLAG, False),
         "--print": Option(one_of("all", "name", "pem"), "all"),
         "--json": Option(FLAG, False),
     }),
-    "registers": Command(1, 1, {"--json": Option(FLAG, False)}),
+    "registers": Command(1, 1, {**HCRTM, "--json": Option(FLAG, False)}),
     "events": Command(1, 1, {
+        **HCRTM,
         "--data": Option(FLAG, False),
         EXPLAIN: Option(FLAG, False),
         **CONFIRMING,
         "--json": Option(FLAG, False),
     }),
     "boot": Command(1, 1, {
+        **HCRTM,
         **CONFIRMING,
         "--before": Option(str, None),
         "--json": Option(FLAG, False),
     }),
     "show": Command(1, 1, {"--json": Option(FLAG, False)}),
+    "list": Command(1, 1, {}),
+    "log": Command(1, 1, {}),
     "replay": Command(1, 2, {
         "--require": Option(str, None),
         KNOWN: Option(str, [], is_repeated=True),
@@ -151,13 +164,15 @@ def read_words(words):
         raise USAGE
     if (name in ("events", "boot") and has_wrong_quote(values)) or has_wrong_signing(values):
         raise USAGE
+    if name in ("events", "boot") and reads_standard_input_twice(names, values):
+        raise USAGE
     defaults = {option: it.default for option, it in command.options.items()}
     return Words(name, names, {**defaults, **values})
 
 
 def lacks_another(command, names, values):
     """Whether an option is there without the one, or the name, that it goes with."""
-    if KNOWN in values and "--require" not in values:
+    if not {KNOWN, OLD_KERNEL}.isdisjoint(values) and "--require" not in values:
         return True
     if command == "replay":
         return len(names) < 2 and not {"--require", EXPLAIN}.isdisjoint(values)
@@ -196,6 +211,11 @@ def has_wrong_quote(values):
 def has_wrong_signing(values):
     """Whether a key is given without a signature, or the other way round, or both beside the word that the signature was verified."""
     return ("--key" in values) != ("--signature" in values) or ("--key" in values and "--signature-checked" in values)
+
+
+def reads_standard_input_twice(names, values):
+    """Whether two inputs are standard input, or the log of an earlier boot is: it is that of LOG alone, or of EXPECTED."""
+    return values.get("--before") == "-" or (names == ["-"] and values.get("--expected") == "-")
 
 
 def read_arguments(command, words):

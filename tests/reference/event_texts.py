@@ -26,6 +26,21 @@ def read_whole(read, data):
     return None if fields.left() else found
 
 
+def read_front(read, data):
+    """What a reader of fields finds at the start of bytes, and what follows it; or None."""
+    fields = Fields(data)
+    try:
+        found = read(fields)
+    except Cut:
+        return None
+    return found, fields.take(fields.left())
+
+
+def rest_member(rest):
+    """The bytes behind a form, or no member."""
+    return {"rest": rest.hex()} if rest else {}
+
+
 def read_items(read, fields):
     """What a reader finds in the fields up to their end, one after another."""
     items = []
@@ -65,3 +80,13 @@ def up_to_nul(data):
     """The units of two bytes before the first NUL unit, or all whole ones without one."""
     units = [data[place : place + 2] for place in range(0, len(data) - 1, 2)]
     return b"".join(units[: units.index(b"\0\0")] if b"\0\0" in units else units)
+
+
+# How many bytes of a long value are shown in a text for people.
+BRIEF = 32
+
+
+def brief_text(digits):
+    """Hexadecimal digits as a text for people shows them: of many the first, and how many bytes there are."""
+    size = len(digits) // 2
+    return digits if size <= BRIEF else {"begins": digits[: 2 * BRIEF], "size": size}

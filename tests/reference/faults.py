@@ -42,6 +42,28 @@ class LogFault(IntEnum):
         return Fault(f"refused: log fault {self.value} at event {event}", "log", number=self.value, event=event)
 
 
+class LogFormFault(IntEnum):
+    """Those that a log in another form can have beside those of a log."""
+
+    OLD_TRUNCATED = 11
+    OLD_REGISTER = 12
+    NOT_A_LOG = 13
+
+    @staticmethod
+    def of_log(fault):
+        """The fault of a log, where it is one of a log in another form."""
+        return Fault(fault.line.replace("log fault", "log form fault"), "log_form", number=fault.number, **fault.place)
+
+    def at(self, event):
+        """The fault of an event in the SHA-1 form; where the first one is missing, the bytes are no log."""
+        if event == 1:
+            return LogFormFault.NOT_A_LOG.fault()
+        return Fault(f"refused: log form fault {self.value} at event {event}", "log_form", number=self.value, event=event)
+
+    def fault(self):
+        return Fault(f"refused: log form fault {self.value}", "log_form", number=self.value)
+
+
 class ListFault(IntEnum):
     TRUNCATED = 1
     BAD_REGISTER = 2
@@ -111,6 +133,18 @@ class KnownFault(IntEnum):
 
     def at(self, line):
         return Fault(f"refused: known fault {self.value} at line {line}", "known", number=self.value)
+
+
+class TextListFault(IntEnum):
+    """Those of a list as text."""
+
+    MALFORMED = 1
+    UNKNOWN_TEMPLATE = 2
+    WRONG_DIGEST = 3
+    TOO_LONG = 4
+
+    def at(self, line):
+        return Fault(f"refused: text list fault {self.value} at line {line}", "text_list", number=self.value)
 
 
 class CheckpointFault(IntEnum):

@@ -7,9 +7,9 @@ import re
 import stat
 from typing import NamedTuple
 
-from .command_line import read_words
+from .command_line import HelpAsked, VersionAsked, read_words
 from .faults import Fault
-from .measurement_list import IMA_REGISTER, read_prefix, stated_boot_aggregate
+from .measurement_list import IMA_REGISTER, read_prefix, stated_boot_aggregate, told_boot_aggregate
 from .program import (
     MOST_BYTES,
     Inputs,
@@ -17,15 +17,17 @@ from .program import (
     known_by,
     list_of,
     read_boot,
+    replayed,
     report_by_quote,
     required_by,
     unknown_up_to,
 )
 from .known_files import unknown_entries
 from .log import read_log
+from .log_forms import log_of
 from .registers import SHA1
 from .texts import read_expected
-from .verdict import list_report, places, prefix_that_matches, strays_in
+from .verdict import list_report, places, prefix_that_matches, rule_beside, strays_in
 
 MOST_LINES = 3
 HEAD = 4096
@@ -35,15 +37,19 @@ APART = "log and list cannot be told apart"
 AGGREGATES = {
     "wrong": "the boot aggregate is another: log and list are of different boots, or one of them was changed",
     "nobank": "LOG has no bank for the boot aggregate, so nothing says that log and list are of one boot",
-    "missing": "entry 0 is no boot aggregate: the list lacks its beginning, has another template, or was changed",
+    "missing": "entry 0 is no boot aggregate: the list lacks its beginning, has another template, or was changed; with --require the boot aggregate "
+               "is also taken from ima-ngv2, ima-sigv2, ima-modsig",
 }
 OLD_AGGREGATE = ("the boot aggregate is that of PCRs 0 to 7 alone, as some kernels before 5.8 record it: it does not bind PCRs 8 and 9 to the "
-                 "list")
+                 "list; --old-kernel takes it beside --require")
 OLD_REGISTERS = range(8)
 NO_ENTRIES = "LIST is empty: copy the kernel's list with cat, since its size is given as 0"
 NO_EXPECTED = "EXPECTED has no PCR, so no PCR was compared: give the values read with LIST"
 NOT_GIVEN = "add EXPECTED, the values read with the quote: its rows show which PCR differs"
 UNCONFIRMED = "EXPECTED is not what the TPM signed: give the values read with the quote"
+BY_HCRTM = "LOG has an H-CRTM event, which tells that PCR 0 began at 4: add --hcrtm, with which less differs"
+ONLY_SHA1 = ("PCR {} is required in the SHA-1 bank alone: whoever can make collisions can make another log or list with its value; require another "
+             "bank, too, if there is one")
 PADDED = "a kernel before 5.8 extended it by SHA-1 digests with zeros after them, "
 
 # A report without rows, as text.
@@ -52,10 +58,11 @@ BARE_MATCH = re.compile(rb"(?:events \d+ locality \d+\n)?entries \d+\n(?:boot_ag
 EMPTY = "it is empty: copy the kernel's files with cat, since their size is given as 0"
 NOTHING_PRINTED = "it is empty: the tool printed nothing"
 LIST_FOR_LOG = "it is a measurement list, and no firmware event log"
-OLD_LOG = ("it is in the SHA-1 form of TPM 1.2, which is not read: kernels before 5.3 and some cloud machines give no other; PCRs 0 to 9 cannot be "
-           "judged")
+OLD_LOG = ("it is in the SHA-1 form of TPM 1.2: ima-agent log makes LOG of it, of the SHA-1 bank alone, which stops nobody who can make "
+           "collisions")
 LOG_FOR_LIST = "it is a firmware event log, and no measurement list"
-TEXT_FOR_LIST = "it is the list as text: take binary_runtime_measurements, which is beside it"
+TEXT_FOR_LIST = "it is the list as text: take binary_runtime_measurements, which is beside it; or ima-agent list makes LIST of it"
+LIST_FOR_TEXT = "it is the binary list, which the other commands take as it is"
 PRINTED_FOR_EXPECTED = "it is what tpm2-tools print: ima-agent expected makes EXPECTED of it"
 PRINTED = (b"  sha", b"  sm3", b"pcrs:", b"sha1:", b"sha256:", b"sha384:", b"sha512:")
 
@@ -88,19 +95,26 @@ def first_of(unknown):
 
 def records_old(inputs, log, listed):
     """Whether the first entry of the list, or of what follows a checkpoint, records the hash of PCRs 0 to 7 after the log."""
-    stated, registers = stated_boot_aggregate(read_prefix(inputs.load(listed), 0)[0]), log.registers()
+    entries, registers = read_prefix(inputs.load(listed), 0)[0], log.registers()
+    stated = stated_boot_aggregate(entries) or told_boot_aggregate(entries)
     if stated is None or stated[0] not in registers.banks:
         return False
     algorithm, digest = stated
     return digest == algorithm.hash(b"".join(registers.value(algorithm, register) for register in OLD_REGISTERS))
 
 
+def load_log(inputs, values, log):
+    """The bytes that are replayed of a log."""
+    return replayed(values, inputs.load(log))
+
+
 def seen_by_verify(inputs, values, log, listed, expected):
     required = required_by(values)
-    log, expected = inputs.load(log), read_expected(inputs.load(expected))
+    log, expected = load_log(inputs, values, log), read_expected(inputs.load(expected))
     log, known, start, entries, fault = read_boot(inputs, values, log, listed)
-    prefix = prefix_that_matches(log, start, entries, expected, required) if values["--prefix"] else None
-    end, report = judged_prefix(log, start, entries, fault, prefix, expected, required)
+    rule = rule_beside(required, values["--old-kernel"])
+    prefix = prefix_that_matches(log, start, entries, expected, required, rule) if values["--prefix"] else None
+    end, report = judged_prefix(log, start, entries, fault, prefix, expected, required, rule)
     report = report.looked_at(unknown_up_to(end, known, start, entries))
     seen = Seen(end.entries, report.rows, report.missing or [], strays_in(log.events, end.stray), first_of(report.unknown),
                 report.counts["boot_aggregate"], is_bare=not expected, is_old=records_old(inputs, log, listed))
@@ -108,15 +122,15 @@ def seen_by_verify(inputs, values, log, listed, expected):
 
 
 def seen_by_attest(inputs, values, log, listed, message, expected=None):
-    told = report_by_quote(inputs, values, lambda: inputs.load(log), listed, message, expected)
+    told = report_by_quote(inputs, values, lambda: load_log(inputs, values, log), listed, message, expected)
     beside = None if told.is_quoted else {None: "not given", True: "confirmed", False: "unconfirmed"}[told.is_confirmed]
-    report, is_old = told.report, records_old(inputs, read_log(inputs.load(log)), listed)
+    report, is_old = told.report, records_old(inputs, read_log(load_log(inputs, values, log)), listed)
     seen = Seen(told.end.entries, report.rows, [], report.strays, first_of(report.unknown), report.counts["boot_aggregate"], beside, is_old=is_old)
     return seen, report
 
 
 def seen_by_locate(inputs, values, log, listed, expected):
-    required, log = required_by(values), inputs.load(log)
+    required, log = required_by(values), load_log(inputs, values, log)
     expected, read = read_expected(inputs.load(expected)), inputs.opened(listed)
     told = places(read_log(log), list_of(*read()), expected, required)
     return Seen(None, told.rows, told.missing, is_bare=not expected), None
@@ -141,6 +155,27 @@ def grown(inputs, asked):
     except Fault:
         return None
     return (report.counts["confirmed"], report.counts["entries"]) if report.matches and "confirmed" in report.counts else None
+
+
+def differs_less(before, after, command):
+    """Whether a cause that is of where the machine started is gone: a register of the log, the quote, or the boot aggregate."""
+    differs = ("nowhere",) if command == "locate" else ("differ",)
+    return any(was and not now for was, now in (
+        (before.first(differs, False), after.first(differs, False)),
+        (before.beside, after.beside),
+        (before.aggregate == "wrong", after.aggregate == "wrong"),
+    ))
+
+
+def is_by_hcrtm(inputs, asked, seen):
+    """Whether less differs where the H-CRTM's event of the log tells where the machine started."""
+    if asked.values.get("--hcrtm", True):
+        return False
+    try:
+        told, _ = SEEN_BY[asked.command](inputs, {**asked.values, "--hcrtm": True, "--known": []}, *asked.names)
+    except Fault:
+        return False
+    return differs_less(seen, told, asked.command)
 
 
 def lines_on(command, seen, counts):
@@ -193,6 +228,8 @@ def next_steps(words, folder, standard_input=b"", has_prefix=True):
     asked, inputs = read_words(words), Inputs(folder, standard_input, MOST_BYTES)
     try:
         seen, _ = SEEN_BY[asked.command](inputs, asked.values, *asked.names)
+        if is_by_hcrtm(inputs, asked, seen):
+            return [BY_HCRTM]
         counts = grown(inputs, asked) if has_prefix else None
     finally:
         inputs.close()
@@ -205,6 +242,37 @@ def said_anyway(words, text):
         return []
     is_bare = BARE_MATCH.fullmatch(text) or (text.startswith(b"{") and json.loads(text).get("compared") == 0)
     return [NO_EXPECTED] if is_bare else []
+
+
+def asked_by(words):
+    """What words ask to be done with inputs; None for no words, and for help and the version."""
+    try:
+        return read_words(words) if words else None
+    except (HelpAsked, VersionAsked):
+        return None
+
+
+def said_of_match(words):
+    """The lines that a terminal gets after all is well, beside those that come anyway: of the first PCR that is required in the SHA-1 bank alone."""
+    asked = asked_by(words)
+    if asked is None or asked.command not in ("verify", "locate", "replay") or asked.values["--require"] is None:
+        return []
+    required = required_by(asked.values)
+    others = {register for algorithm, register in required if algorithm is not SHA1}
+    weak = sorted(register for algorithm, register in required if algorithm is SHA1 and register not in others)
+    return [ONLY_SHA1.format(weak[0])] if weak else []
+
+
+def said_of_padding(words, folder, standard_input=b""):
+    """The line that comes anyway where a log is given without its padding."""
+    asked, inputs = asked_by(words), Inputs(folder, standard_input, MOST_BYTES)
+    try:
+        if asked is None or asked.command != "log":
+            return []
+        _, padding = log_of(inputs.load_argument(*asked.names))
+    finally:
+        inputs.close()
+    return [f"padding cut: {padding} bytes behind the last event"] if padding else []
 
 
 def are_regular(words, folder, standard_input=None):
@@ -232,10 +300,14 @@ def is_old_log(head):
 
 
 def mistake_in(kind, data):
-    """What the bytes of an input are in place of a log, a list, expected registers or what tpm2-tools printed; or None."""
+    """What the bytes of an input are in place of a log, a list, what is converted to one, expected registers or what tpm2-tools printed; or None."""
     if not data:
-        return EMPTY if kind in ("log", "list") else NOTHING_PRINTED
+        return EMPTY if kind in ("log", "list", "form", "text") else NOTHING_PRINTED
     head = data[:HEAD]
+    if kind == "form":
+        return LIST_FOR_LOG if head[28:31] == b"ima" else None
+    if kind == "text":
+        return LIST_FOR_TEXT if head[28:31] == b"ima" else LOG_FOR_LIST if head[32:48] == b"Spec ID Event03\0" else None
     if kind == "log":
         return LIST_FOR_LOG if head[28:31] == b"ima" else OLD_LOG if is_old_log(head) else None
     if kind == "list":

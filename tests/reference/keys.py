@@ -1,5 +1,5 @@
-"""Keys of a TPM: their public areas (TPM 2.0 Library, part 2, 'TPM2B_PUBLIC'), their names, and what they lack to be an attestation key, or an
-endorsement key. Whose TPM it is, is not looked at here, nor whether a point is on its curve or a modulus a product of primes."""
+"""Keys of a TPM: their public areas (TPM 2.0 Library, part 2, 'TPM2B_PUBLIC' and 'TPMT_PUBLIC'), their names, and what they lack to be an
+attestation key, or an endorsement key. Whose TPM it is, is not looked at here, nor whether a point is on its curve or a modulus a product of primes."""
 
 from base64 import b64encode
 from typing import NamedTuple, Optional
@@ -17,6 +17,7 @@ SCHEMES = {
     RSA: {NULL: ("none", False), 0x0015: ("rsaes", False), 0x0014: ("rsassa", True), 0x0016: ("rsapss", True), 0x0017: ("oaep", True)},
     ECC: {NULL: ("none", False), 0x0018: ("ecdsa", True), 0x0019: ("ecdh", True)},
 }
+TYPES = [kind.to_bytes(2, "big") for kind in SCHEMES]
 SIGNING = ("rsassa", "rsapss", "ecdsa")
 EXPONENT = 65537
 LEAST_BITS = 2048
@@ -191,13 +192,24 @@ def read_fields(data):
     return Area(name_hash, name, attributes, scheme, scheme_hash, key)
 
 
+def is_bare(data):
+    """Whether an area has no size before it: a type comes first, and none after it. (Behind a size the type is the second number, where a bare area
+    has that of a hash, which is no type's.)"""
+    return data[:2] in TYPES and data[2:4] not in TYPES
+
+
+def framed(data):
+    """The bytes of an area that has its size before it and nothing after it."""
+    frame = Fields(data, "big")
+    area = frame.with_length(2)
+    refuse_unless(not frame.left(), "Trailing")
+    return area
+
+
 def read_area(data):
-    """What a public area states, with its size before it and nothing after it; or its first fault."""
+    """What a public area states, with its size before it or bare, and nothing after it; or its first fault."""
     try:
-        frame = Fields(data, "big")
-        area = frame.with_length(2)
-        refuse_unless(not frame.left(), "Trailing")
-        return read_fields(area)
+        return read_fields(data if is_bare(data) else framed(data))
     except Cut:
         raise key_fault("Truncated") from None
 

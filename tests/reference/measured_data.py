@@ -16,7 +16,7 @@ def parts_of(event):
         yield "value", variable.value
     command = command_in(event.data) if event.register == COMMANDS_REGISTER else None
     if command:
-        yield "command", command.text
+        yield "command", command.hashed
 
 
 def is_measured(event, bank, part):

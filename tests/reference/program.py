@@ -8,8 +8,9 @@ import subprocess
 from pathlib import Path
 from typing import Callable, NamedTuple
 
+from . import list_texts, log_forms
 from .attestations import CHECKED, NOT_CHECKED, VALID, asked_quote, quoted_report, read_state, sound_requirement, stated_rows
-from .boot_answers import Boot
+from .boot_answers import Boot, claim_lines
 from .checkpoint import before_a_list, read_checkpoint
 from .command_line import HelpAsked, VersionAsked, read_words
 from .faults import (
@@ -45,10 +46,12 @@ from .measurement_list import (
 from .registers import ALGORITHMS, BY_NAME, SHA1, Registers, registers_value
 from .signatures import Lacking, check_signed
 from .texts import read_expected, read_hexadecimal, read_names, read_printed, read_requirement, read_selection
-from .verdict import list_report, places, prefix_report, prefix_that_matches, report_at
+from .verdict import Rule, list_report, places, prefix_report, prefix_that_matches, report_at, rule_beside
 
 MOST_BYTES = 64 << 20
 LONGEST_PATH = 4095
+# What standard input is called, by a fault and by the arguments of some commands.
+STANDARD_INPUT = "-"
 # How many names there are for the file beside one that is saved, and the mode of one that its user alone reads and writes.
 MOST_BESIDE = 100
 PRIVATE = 0o600
@@ -98,7 +101,11 @@ class Inputs:
         return whole(*self.opened(name)())
 
     def load_standard_input(self):
-        return whole(*self.limited("-", self.standard_input))
+        return whole(*self.limited(STANDARD_INPUT, self.standard_input))
+
+    def load_argument(self, name):
+        """The bytes of the input that an argument names, where `-` is standard input."""
+        return self.load_standard_input() if name == STANDARD_INPUT else self.load(name)
 
     def read(self, name, file):
         """The bytes that are taken of a file, and the fault that ends them, or None."""
@@ -183,24 +190,31 @@ def registers_of_hexadecimal(inputs):
     return told_of(read_log(read_hexadecimal(inputs.load_standard_input())).registers())
 
 
+def replayed(values, log):
+    """The bytes that are replayed of a log."""
+    return log_forms.told_log(log) if values["--hcrtm"] else log
+
+
 def registers_command(inputs, values, log):
-    return told_of(read_log(inputs.load(log)).registers())
+    return told_of(read_log(replayed(values, inputs.load(log))).registers())
 
 
 def confirming_registers(inputs, values, log):
     """The registers that match after a log of these bytes, or None where nothing tells which do; and the status once all is told."""
     if values["--quote"] is not None:
         report = report_by_quote(inputs, {**values, **OF_A_WHOLE_LIST}, lambda: log, values["--list"], values["--quote"])
-        quoted = {(algorithm, register) for algorithm, register in report.quote.selected if register != IMA_REGISTER}
-        return quoted if report.matches else set(), attest_status(report)
+        # (what else is quoted root chooses: it may be a bank that the firmware does not extend)
+        required = read_requirement(values["--require"])
+        confirmed = {(algorithm, register) for algorithm, register in report.quote.selected if register != IMA_REGISTER} & required
+        return confirmed if report.matches else set(), attest_status(report)
     if values["--expected"] is None:
         return None, 0
-    expected = read_expected(inputs.load(values["--expected"]))
+    expected = read_expected(inputs.load_argument(values["--expected"]))
     return matching_registers(read_log(log).registers(), expected), 0
 
 
 def events_command(inputs, values, log):
-    data = inputs.load(log)
+    data = replayed(values, inputs.load_argument(log))
     matching, status = confirming_registers(inputs, values, data)
     log, fault = read_log_prefix(data)
     if fault and not values["--json"]:
@@ -212,12 +226,12 @@ def events_command(inputs, values, log):
 
 
 def boot_command(inputs, values, log):
-    data = inputs.load(log)
+    data = replayed(values, inputs.load_argument(log))
     matching, status = confirming_registers(inputs, values, data)
     boot = Boot(read_log(data), matching or set())
-    lines = [*boot.lines()]
+    lines = [*boot.lines()] if matching is not None else claim_lines(boot.log)
     if values["--before"] is not None:
-        lines += boot.differences(read_log(inputs.load(values["--before"])))
+        lines += boot.differences(read_log(replayed(values, inputs.load(values["--before"]))))
     return Told(lambda: "".join(f"{line.text}\n" for line in lines), lambda: [line.value for line in lines], status)
 
 
@@ -268,14 +282,14 @@ def expected_command(inputs, values, text):
     selected = read_selection(values["--registers"])
     if selected is None:
         raise USAGE
-    rows = [row for row in read_printed(inputs.load(text)) if (row.algorithm, row.register) in selected]
+    rows = [row for row in read_printed(inputs.load_argument(text)) if (row.algorithm, row.register) in selected]
     if not rows:
         raise ExpectedFault.NO_REGISTER.of_text()
     return Told(lambda: "".join(row.line() for row in rows), lambda: [registers_value(rows)])
 
 
 def key_command(inputs, values, area):
-    key, part = read_key(inputs.load(area), values["--endorsement"]), values["--print"]
+    key, part = read_key(inputs.load_argument(area), values["--endorsement"]), values["--print"]
     return Told(lambda: key.text(part), lambda: [key.as_json(part)])
 
 
@@ -298,12 +312,12 @@ def unknown_up_to(end, known, start, entries):
     return unknown_entries(known, entries[: end.entries - start.entries], start.entries)
 
 
-def judged_prefix(log, start, entries, fault, prefix, expected, required=None):
+def judged_prefix(log, start, entries, fault, prefix, expected, required=None, rule=Rule()):
     """The checkpoint that is reported on, and the report: on a prefix of the list, or where that is None on the whole."""
     if prefix:
-        return prefix, prefix_report(log, prefix, start, entries, fault, expected, required)
+        return prefix, prefix_report(log, prefix, start, entries, fault, expected, required, rule)
     end = start.following(whole(entries, fault))
-    return end, report_at(log, end, expected, required)
+    return end, report_at(log, end, expected, required, rule=rule)
 
 
 def save_if_it_matches(inputs, values, report, text):
@@ -314,11 +328,12 @@ def save_if_it_matches(inputs, values, report, text):
 
 def verify_command(inputs, values, log, listed, expected):
     required = required_by(values)
-    log = inputs.load(log)
+    log = replayed(values, inputs.load(log))
     expected = read_expected(inputs.load(expected))
     log, known, start, entries, fault = read_boot(inputs, values, log, listed)
-    prefix = prefix_that_matches(log, start, entries, expected, required) if values["--prefix"] else None
-    end, report = judged_prefix(log, start, entries, fault, prefix, expected, required)
+    rule = rule_beside(required, values["--old-kernel"])
+    prefix = prefix_that_matches(log, start, entries, expected, required, rule) if values["--prefix"] else None
+    end, report = judged_prefix(log, start, entries, fault, prefix, expected, required, rule)
     report = report.looked_at(unknown_up_to(end, known, start, entries))
     if is_growing(values):
         report = report._replace(matches=report.matches and bool(expected))
@@ -346,7 +361,7 @@ def report_by_quote(inputs, values, load_log, listed, message, expected=None):
     log = load_log()
     rows = stated_rows(quote, None if expected is None else inputs.load(expected))
     boot, known, start, entries, fault = read_boot(inputs, values, log, listed, lambda text: read_state(text, quote))
-    report = quoted_report(boot, start, entries, fault, quote, signature, values["--prefix"], rows)
+    report = quoted_report(boot, start, entries, fault, quote, signature, values["--prefix"], rows, values["--old-kernel"])
     report = report.looked_at(unknown_up_to(report.end, known, start, entries))
     if not report.end.leaves_room:
         raise MEMORY
@@ -358,7 +373,7 @@ def attest_status(report):
 
 
 def attest_command(inputs, values, log, listed, message, expected=None):
-    report = report_by_quote(inputs, values, lambda: inputs.load(log), listed, message, expected)
+    report = report_by_quote(inputs, values, lambda: replayed(values, inputs.load(log)), listed, message, expected)
     save_if_it_matches(inputs, values, report, report.next)
     return told_of(report)._replace(status=attest_status(report))
 
@@ -370,7 +385,7 @@ def is_growing(values):
 
 def locate_command(inputs, values, log, listed, expected):
     required = required_by(values)
-    log = inputs.load(log)
+    log = replayed(values, inputs.load(log))
     expected = read_expected(inputs.load(expected))
     read = inputs.opened(listed)
     log = read_log(log)
@@ -379,7 +394,7 @@ def locate_command(inputs, values, log, listed, expected):
 
 
 def measure_command(inputs, values, log, *names):
-    log = read_log(inputs.load(log))
+    log = read_log(replayed(values, inputs.load(log)))
     names = [*names, *further_names(inputs, values)]
     algorithm, template = BY_NAME[values["--alg"]], values["--template"].encode()
     files = [(name, algorithm.hash(inputs.load(name))) for name in names]
@@ -423,6 +438,16 @@ def measured(log, algorithm, template, limit, files, workers):
     return list(entries)
 
 
+def list_command(inputs, values, text):
+    data = list_texts.list_of(inputs.load_argument(text))
+    return Told(lambda: data, list)
+
+
+def log_command(inputs, values, log):
+    data, _ = log_forms.log_of(inputs.load_argument(log))
+    return Told(lambda: data, list)
+
+
 COMMANDS = {
     "measure": measure_command,
     "verify": verify_command,
@@ -435,6 +460,8 @@ COMMANDS = {
     "boot": boot_command,
     "show": show_command,
     "replay": replay_command,
+    "list": list_command,
+    "log": log_command,
 }
 
 
@@ -448,7 +475,7 @@ def answer(words, folder=".", standard_input=b"", most_bytes=MOST_BYTES):
             raise MEMORY
         if words:
             asked = read_words(words)
-            as_json = asked.values["--json"]
+            as_json = asked.values.get("--json", False)
             inputs.takes_only_regular_files = asked.values.get("--key") is not None
             told = COMMANDS[asked.command](inputs, asked.values, *asked.names)
         else:

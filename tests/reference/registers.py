@@ -65,6 +65,10 @@ class Registers:
         """The boot aggregate of a bank that is there."""
         return algorithm.hash(b"".join(self.banks[algorithm][: 8 if algorithm is SHA1 else 10]))
 
+    def old_boot_aggregate(self, algorithm):
+        """The same as kernels before 5.8 make it."""
+        return algorithm.hash(b"".join(self.banks[algorithm][:8]))
+
     def rows(self):
         """Each register, as its algorithm, its number and its value."""
         return [(algorithm, register, value) for algorithm, values in self.banks.items() for register, value in enumerate(values)]
@@ -88,3 +92,36 @@ def registers_value(rows):
 
 def register_line(algorithm, register, value):
     return f"{algorithm.name} {register} {value.hex()}\n"
+
+
+# What systemd calls the registers, where it has a name (systemd-analyze(1), 'pcrs').
+REGISTER_NAMES = {
+    0: "platform-code",
+    1: "platform-config",
+    2: "external-code",
+    3: "external-config",
+    4: "boot-loader-code",
+    5: "boot-loader-config",
+    6: "host-platform",
+    7: "secure-boot-policy",
+    9: "kernel-initrd",
+    10: "ima",
+    11: "kernel-boot",
+    12: "kernel-config",
+    13: "sysexts",
+    14: "shim-policy",
+    15: "system-identity",
+    16: "debug",
+    23: "application-support",
+}
+
+
+def register_members(register):
+    """A register as JSON, with its name if it has one."""
+    named = {"register_name": REGISTER_NAMES[register]} if register in REGISTER_NAMES else {}
+    return {"register": register, **named}
+
+
+def register_words(register):
+    """A register as text, with its name if it has one."""
+    return f"{register} ({REGISTER_NAMES[register]})" if register in REGISTER_NAMES else str(register)

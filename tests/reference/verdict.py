@@ -11,6 +11,11 @@ from .measurement_list import IMA_REGISTER, require_genuine
 from .registers import ALGORITHMS, REGISTERS, Registers
 
 
+OLD_KERNEL = "old_kernel"
+# The states of a boot aggregate with which a list may match.
+GOOD = ("good", OLD_KERNEL)
+
+
 class Report(NamedTuple):
     """What stands before the rows, by its names; the rows, each an expected register and its state; where registers are required those that
     are missing, else None, and what extends a register that is not its own; whether the verdict is `match`; and with known files the entries
@@ -66,16 +71,29 @@ def named_row(row, names, told):
     return named(row.algorithm, row.register, expected=row.value.hex(), **dict(zip(names, told)))
 
 
+class Rule(NamedTuple):
+    """By which rule the boot aggregate is taken ('The boot aggregate'): whether the first entry may have another of the kernel's templates, and whether
+    the aggregate may be that of a kernel before 5.8."""
+
+    takes_others: bool = False
+    takes_old: bool = False
+
+
+def rule_beside(required, takes_old=False):
+    """The rule where these registers are required, or None: only beside them more is taken."""
+    return Rule() if required is None else Rule(True, takes_old)
+
+
 def verdict_report(log, entries, expected, required=None):
-    return report_at(log, before_a_list(log.registers()).following(entries), expected, required)
+    return report_at(log, before_a_list(log.registers()).following(entries), expected, required, rule=rule_beside(required))
 
 
-def report_at(log, end, expected, required=None, entries=None, told=None):
+def report_at(log, end, expected, required=None, entries=None, told=None, rule=Rule()):
     """The report on the list of a checkpoint; of a confirmed prefix, how many entries the whole list has, and what else is told."""
-    aggregate = boot_aggregate_state(end.before, end.stated)
+    aggregate = boot_aggregate_state(end, rule)
     counts = {"events": len(log.events), "locality": log.locality, "entries": end.entries if entries is None else entries}
     counts |= {**(told or {}), "boot_aggregate": aggregate}
-    return report(counts, end.after, expected, required, aggregate == "good", strays_in(log.events, end.stray))
+    return report(counts, end.after, expected, required, aggregate in GOOD, strays_in(log.events, end.stray))
 
 
 def confirmed_prefix(start, entries, is_sought):
@@ -91,22 +109,22 @@ def confirmed_prefix(start, entries, is_sought):
     return prefix if is_sought(prefix) else None
 
 
-def prefix_that_matches(log, start, entries, expected, required=None):
+def prefix_that_matches(log, start, entries, expected, required=None, rule=Rule()):
     """The shortest prefix on which the verdict is `match`, with nothing required missing; or None, also where no register is expected. What
     extends a register that is not its own is told by the report."""
     if not expected or missing_rows(expected, required):
         return None
-    return confirmed_prefix(start, entries, lambda prefix: report_at(log, prefix, expected).matches)
+    return confirmed_prefix(start, entries, lambda prefix: report_at(log, prefix, expected, rule=rule).matches)
 
 
-def prefix_report(log, prefix, start, entries, fault, expected, required=None):
+def prefix_report(log, prefix, start, entries, fault, expected, required=None, rule=Rule()):
     """The report on a confirmed prefix of the list that a checkpoint and entries after it have, and that a fault may end."""
     try:
         start.following(entries)
     except Fault as found:
         fault = fault or found
     told = {"confirmed": prefix.entries, **({"unconfirmed": fault.unconfirmed()} if fault else {})}
-    return report_at(log, prefix, expected, required, start.entries + len(entries), told)
+    return report_at(log, prefix, expected, required, start.entries + len(entries), told, rule)
 
 
 def list_report(entries, expected, required=None):
@@ -145,14 +163,17 @@ def missing_rows(expected, required):
     return [register for register in everywhere if register in lacking]
 
 
-def boot_aggregate_state(registers, stated):
-    """How what the first entry states compares with the registers after the log."""
+def boot_aggregate_state(end, rule):
+    """How what the first entry of a checkpoint's list states compares by a rule with the registers after the log."""
+    stated = end.stated or (end.told if rule.takes_others else None)
     if stated is None:
         return "missing"
     algorithm, digest = stated
-    if algorithm not in registers.banks:
+    if algorithm not in end.before.banks:
         return "nobank"
-    return "good" if digest == registers.boot_aggregate(algorithm) else "wrong"
+    if digest == end.before.boot_aggregate(algorithm):
+        return "good"
+    return OLD_KERNEL if rule.takes_old and digest == end.before.old_boot_aggregate(algorithm) else "wrong"
 
 
 def row_state(value, expected):

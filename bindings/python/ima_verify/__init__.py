@@ -29,6 +29,7 @@ The library is the file that the environment variable IMA_VERIFY_LIBRARY names b
 `libima_verify.so` in this package's folder, otherwise the system's `libima_verify.so.1`. The first
 call loads it, or raises `LoadError`."""
 
+from ctypes import byref, c_size_t
 from typing import overload
 
 from . import _answers, _library
@@ -36,27 +37,29 @@ from ._errors import (
     Error, Kind, LibraryError, LoadError, Misuse, OutOfMemory, Refused, VersionError,
 )
 from ._inputs import (
-    NOTHING, Known, Nothing, Quote, Required, Text, bytes_of, confirming, judged, text_of,
+    NOTHING, Known, Nothing, Quote, Required, Text, bound_log, bytes_of, confirming, judged, log_of,
+    text_of,
 )
 from ._library import Buffer
 from ._listings import Entries, Events
 from ._results import (
-    Alike, Attestation, Boot, BootVariable, Changed, Clock, Command, Entry, Event, Fault, Header,
-    Image, ImaPolicy, Key, ListVerdict, LogAlgorithm, Pcr, PlaceRow, Places, QuotedBank, Row,
-    Specification, Stray, Verdict,
+    Alike, Attestation, Boot, BootVariable, Certificate, Changed, Claim, Clock, Command,
+    ConvertedLog, Entry, Event, Fault, Header, Image, ImaPolicy, Key, ListVerdict, LogAlgorithm,
+    Pcr, PlaceRow, Places, QuotedBank, Row, Specification, Stray, Verdict,
 )
 from ._session import Session
 
 __version__ = "1.0.0"
 
 __all__ = [
-    "Alike", "Attestation", "Boot", "BootVariable", "Buffer", "Changed", "Clock", "Command",
-    "Entries", "Entry", "Error", "Event", "Events", "Fault", "Header", "Image", "ImaPolicy", "Key",
-    "Kind", "LibraryError", "ListVerdict", "LoadError", "LogAlgorithm", "Misuse", "NOTHING",
-    "Nothing", "OutOfMemory", "Pcr", "PlaceRow", "Places", "Quote", "QuotedBank", "Refused", "Row",
-    "Session", "Specification", "Stray", "Verdict", "VersionError", "attest", "boot", "entries",
-    "events", "expected", "list_registers", "locate", "read_endorsement_key", "read_key",
-    "registers", "replay", "show", "verify", "version",
+    "Alike", "Attestation", "Boot", "BootVariable", "Buffer", "Certificate", "Changed", "Claim",
+    "Clock", "Command", "ConvertedLog", "Entries", "Entry", "Error", "Event", "Events", "Fault",
+    "Header", "Image", "ImaPolicy", "Key", "Kind", "LibraryError", "ListVerdict", "LoadError",
+    "LogAlgorithm", "Misuse", "NOTHING", "Nothing", "OutOfMemory", "Pcr", "PlaceRow", "Places",
+    "Quote", "QuotedBank", "Refused", "Row", "Session", "Specification", "Stray", "Verdict",
+    "VersionError", "attest", "boot", "convert_list", "convert_log", "entries", "events",
+    "expected", "list_registers", "locate", "read_endorsement_key", "read_key", "registers",
+    "replay", "show", "verify", "version",
 ]
 
 
@@ -71,7 +74,7 @@ def version() -> int:
 
 def verify(
     log: Buffer, measurements: Buffer, expected: Text, *, require: Required,
-    known: Known | None = None,
+    known: Known | None = None, hcrtm: bool = False, old_kernel: bool = False,
 ) -> Verdict:
     """The verdict on a firmware event log, a measurement list and expected PCRs.
 
@@ -79,6 +82,10 @@ def verify(
         require: The PCRs that must be among the expected ones, or `NOTHING`.
         known: Texts as sha256sum, sha384sum or sha512sum print them, by which each entry but the
             boot aggregate must be of a known file; `unknown` of the verdict has the others.
+        hcrtm: Whether an event EV_EFI_HCRTM_EVENT in PCR 0 tells that PCR 0 began at 4, if no event
+            of the log tells a locality (TPM 2.0 Library, part 1, 34.3).
+        old_kernel: Whether a boot aggregate over PCRs 0 to 7 is taken, as kernels before 5.8 make
+            it, if PCRs are required; `boot_aggregate` of the verdict is then "old_kernel".
 
     Raises:
         Refused: An input is not valid, or the template digest of an entry does not match.
@@ -92,7 +99,7 @@ def verify(
     (93, 94, 97)
     """
     given = judged(measurements, expected, require, known)
-    answer = _library.call("verdict", log=bytes_of("log", log), **given)
+    answer = _library.call("verdict", **bound_log(log, hcrtm, old_kernel), **given)
     return _answers.read_verdict(Verdict, *answer)
 
 
@@ -112,15 +119,17 @@ def replay(
     return _answers.read_verdict(ListVerdict, *answer)
 
 
-def locate(log: Buffer, measurements: Buffer, expected: Text, *, require: Required) -> Places:
-    """Where each expected PCR first has its value. Errors are as of `verify`.
+def locate(
+    log: Buffer, measurements: Buffer, expected: Text, *, require: Required, hcrtm: bool = False
+) -> Places:
+    """Where each expected PCR first has its value. Arguments and errors are as of `verify`.
 
     >>> places = ima_verify.locate(log, measurements, expected, require="sha256:0-10")
     >>> [(row.register, row.place, row.number) for row in places.registers[9:11]]
     [(9, 'event', 22), (10, 'entry', 98)]
     """
     given = judged(measurements, expected, require)
-    answer = _library.call("locate", log=bytes_of("log", log), **given)
+    answer = _library.call("locate", **log_of(log, hcrtm), **given)
     return _answers.read_places(*answer)
 
 
@@ -128,7 +137,8 @@ def locate(log: Buffer, measurements: Buffer, expected: Text, *, require: Requir
 def attest(
     key: Text, quote: Buffer, signature: Buffer, log: Buffer, measurements: Buffer, *,
     nonce: Buffer | None = None, nonce_hex: str | None = None, require: str,
-    allow_sha1: bool = False, known: Known | None = None,
+    allow_sha1: bool = False, known: Known | None = None, hcrtm: bool = False,
+    old_kernel: bool = False,
 ) -> Attestation: ...
 
 
@@ -136,14 +146,16 @@ def attest(
 def attest(
     key: None, quote: Buffer, signature: None, log: Buffer, measurements: Buffer, *,
     nonce: Buffer | None = None, nonce_hex: str | None = None, require: str,
-    allow_sha1: bool = False, known: Known | None = None, signature_checked: bool,
+    allow_sha1: bool = False, known: Known | None = None, hcrtm: bool = False,
+    old_kernel: bool = False, signature_checked: bool,
 ) -> Attestation: ...
 
 
 def attest(
     key: Text | None, quote: Buffer, signature: Buffer | None, log: Buffer, measurements: Buffer, *,
     nonce: Buffer | None = None, nonce_hex: str | None = None, require: str,
-    allow_sha1: bool = False, known: Known | None = None, signature_checked: bool | None = None,
+    allow_sha1: bool = False, known: Known | None = None, hcrtm: bool = False,
+    old_kernel: bool = False, signature_checked: bool | None = None,
 ) -> Attestation:
     """The verdict on a firmware event log and a measurement list by a quote with its signature.
 
@@ -156,7 +168,7 @@ def attest(
         nonce_hex: In place of `nonce`: its hexadecimal digits, as `openssl rand -hex 20` writes.
         require: The PCRs that must be quoted, at least 0 to 10, such as `sha256:0-10`.
         allow_sha1: Whether a PCR may be required in the SHA-1 bank alone.
-        known: As for `verify`.
+        known, hcrtm, old_kernel: As for `verify`.
         signature_checked: For another key, such as one of P-521, in place of key and signature,
             which are then None: whether the caller has verified the signature of this message by
             the machine's key. If it is False, there is no match.
@@ -173,7 +185,8 @@ def attest(
     (True, 99, 10, 1)
     """
     bytes_of("measurements", measurements)
-    return Session.by_quotes(log, known=known)._attest(Quote(
+    session = Session.by_quotes(log, known=known, hcrtm=hcrtm, old_kernel=old_kernel)
+    return session._attest(Quote(
         key, quote, signature, measurements, nonce=nonce, nonce_hex=nonce_hex, require=require,
         allow_sha1=allow_sha1, signature_checked=signature_checked,
     ))
@@ -181,14 +194,15 @@ def attest(
 
 def boot(
     log: Buffer, *, expected: Text | None = None, quote: Quote | None = None,
-    before: Buffer | None = None,
+    before: Buffer | None = None, hcrtm: bool = False, old_kernel: bool = False,
 ) -> Boot:
     """What a machine booted, by its firmware event log, as far as PCRs confirm it.
 
     Args:
-        expected, quote: What confirms: expected PCRs, or a quote that matches log and list. Without
-            one, all is unknown.
+        expected, quote: What confirms: expected PCRs, or those that a quote requires, which matches
+            log and list. Without one, all is unknown.
         before: The log of an earlier boot, to compare with. Nothing confirms it.
+        hcrtm, old_kernel: As for `verify`; `old_kernel` only with a quote.
 
     Errors are as of `verify` and `attest`.
 
@@ -200,8 +214,8 @@ def boot(
     """
     compared = {} if before is None else {"before": bytes_of("before", before), "compares": True}
     answer = _library.call(
-        "boot", _library.PIECE_CAPACITY, log=bytes_of("log", log), json=True, **compared,
-        **confirming(expected, quote),
+        "boot", _library.PIECE_CAPACITY, **bound_log(log, hcrtm, old_kernel), json=True, **compared,
+        **confirming(expected, quote, old_kernel),
     )
     return _answers.read_boot(*answer)
 
@@ -210,9 +224,10 @@ def read_key(area: Buffer) -> Key:
     """The attestation key of a public area.
 
     It is restricted, never leaves the TPM that made it, signs, and does not decrypt. Its area, the
-    file that `tpm2_createak -u` writes, does not say whose TPM it is in, and anyone can write one:
-    take it, or its `pem`, for `attest` only after a credential for its `name` was activated, as
-    `ima-enroll` does. `Refused` says if it is no area, or what the key lacks.
+    file that `tpm2_createak -u` writes or one without its size, does not say whose TPM it is in,
+    and anyone can write one: take it, or its `pem`, for `attest` only after a credential for its
+    `name` was activated, as `ima-enroll` does. `Refused` says if it is no area, or what the key
+    lacks.
 
     >>> key = ima_verify.read_key(Path("../keys/ak-rsassa.pub").read_bytes())
     >>> key.type, key.bits, key.scheme, key.hash
@@ -257,14 +272,51 @@ def expected(printed: Text, registers: str | None = None) -> bytes:
     return text
 
 
-def registers(log: Buffer) -> tuple[Pcr, ...]:
-    """The PCRs that differ from their reset values after a firmware event log.
+def convert_list(text: Text) -> bytes:
+    """The binary measurement list of a list as text, such as the kernel's
+    ascii_runtime_measurements: exactly these lines are what `show` gives of it. `Refused` names the
+    first line that is not that of a genuine entry.
+
+    >>> ima_verify.convert_list(ima_verify.show(measurements)) == measurements
+    True
+    """
+    return _converted(text_of("text", text), _library.CONVERT_LIST)[0]
+
+
+def convert_log(log: Buffer) -> ConvertedLog:
+    """A crypto-agile log of the same events, of a log in the SHA-1 form of TPM 1.2, or of one with
+    zeros or bytes 0xFF behind its last event. A log by SHA-1 is worth nothing against whoever can
+    make collisions.
+
+    >>> found = ima_verify.convert_log(log + bytes(4))
+    >>> found.log == log, found.padding
+    (True, 4)
+    """
+    return ConvertedLog(*_converted(bytes_of("log", log), _library.CONVERT_LOG))
+
+
+def _converted(given: Buffer, conversion: int) -> tuple[bytes, int]:
+    padding = c_size_t(-1)
+    status, made = _library.call(
+        "convert", memoryview(given).nbytes + _library.PIECE_CAPACITY, bytes=given,
+        conversion=conversion, padding=byref(padding),
+    )
+    if status != _library.DONE or padding.value > memoryview(given).nbytes:
+        _library.unexpected(status, made)
+    return made, padding.value
+
+
+def registers(log: Buffer, *, hcrtm: bool = False) -> tuple[Pcr, ...]:
+    """The PCRs that differ from their reset values after a firmware event log. (`hcrtm` is as for
+    `verify`.)
 
     >>> first = ima_verify.registers(log)[0]
     >>> first.bank, first.register, first.value.hex()[:8]
     ('sha256', 0, '177e29c4')
     """
-    return _answers.read_pcrs(*_library.call("registers", bytes=bytes_of("log", log), json=True))
+    given = log_of(log, hcrtm)
+    given["bytes"] = given.pop("log")
+    return _answers.read_pcrs(*_library.call("registers", **given, json=True))
 
 
 def list_registers(measurements: Buffer) -> tuple[Pcr, ...]:
@@ -288,13 +340,14 @@ def entries(measurements: Buffer) -> Entries:
 
 
 def events(
-    log: Buffer, *, expected: Text | None = None, quote: Quote | None = None
+    log: Buffer, *, expected: Text | None = None, quote: Quote | None = None, hcrtm: bool = False,
+    old_kernel: bool = False,
 ) -> Events:
     """The events of a firmware event log after its header, one after another. They are never all
     in memory.
 
     With expected PCRs or a quote, as for `boot`, each event has `confirmed`; the whole log is then
-    read by this call, and otherwise its header.
+    read by this call, and otherwise its header. (`hcrtm` and `old_kernel` are as for `boot`.)
 
     >>> events = ima_verify.events(log)
     >>> [algorithm.name for algorithm in events.header.algorithms], next(events).type
@@ -302,7 +355,8 @@ def events(
     >>> next(ima_verify.events(log, expected=expected)).confirmed
     'data'
     """
-    return Events(log, expected=expected, quote=quote)
+    given = {"hcrtm": hcrtm, "old_kernel": old_kernel}
+    return Events(log, expected=expected, quote=quote, **given)
 
 
 def show(measurements: Buffer) -> bytes:

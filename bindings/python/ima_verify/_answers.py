@@ -22,6 +22,10 @@ _GATHERED = {
     "image": "images", "command": "commands", "boot_variable": "boot_variables", "alike": "alike",
     "now": "changed", "before": "changed",
 }
+# What of a boot is confirmed where all lines are claims.
+_UNKNOWN = "unknown"
+_CLAIMED = {"secure_boot": _UNKNOWN, "firmware_version": _UNKNOWN,
+            "ima_policy": {"ima_policy": _UNKNOWN}}
 
 
 def read_verdict(kind: type[_Verdict], status: int, text: bytes) -> _Verdict:
@@ -48,7 +52,7 @@ def read_boot(status: int, text: bytes) -> Boot:
     """What was booted, by lines of several kinds. Of a kind that is not known a line is ignored."""
     try:
         _require(status in (DONE, DIFFERS) and text.endswith(b"\n"))
-        found: dict[str, Any] = {name: [] for name in _GATHERED.values()}
+        found: dict[str, Any] = {name: [] for name in (*_GATHERED.values(), "claimed")}
         for line in text.splitlines(keepends=True):
             members = _object_in(line)
             for name in members.keys() & _GATHERED.keys():
@@ -57,6 +61,10 @@ def read_boot(status: int, text: bytes) -> Boot:
                 found[name] = members[name]
             if "ima_policy" in members:
                 found["ima_policy"] = members
+            if members.get("claimed") == "all":
+                found.update(_CLAIMED)
+            elif members.keys() & {"image", "command", "register", "claimed"} == {"claimed"}:
+                found["claimed"].append(members["claimed"])
         return _made(Boot, found, quote_differs=status == DIFFERS, json=_line(text))
     except _WRONG:
         unexpected(status, text)

@@ -2,7 +2,8 @@
 
 import enum
 
-_PLACES = {"log": "event", "list": "entry", "replay": "entry", "expected": "line", "known": "line"}
+_PLACES = {"log": "event", "list": "entry", "replay": "entry", "expected": "line", "known": "line",
+           "text_list": "line", "log_form": "event"}
 
 
 class Kind(str, enum.Enum):
@@ -19,6 +20,8 @@ class Kind(str, enum.Enum):
     KEY = "key"
     KNOWN = "known"
     SIGNATURE = "signature"  # (also a key by which signatures are not verified here)
+    TEXT_LIST = "text_list"  # (what `convert_list` takes)
+    LOG_FORM = "log_form"  # (what `convert_log` takes)
 
 
 class Error(Exception):
@@ -29,8 +32,9 @@ class Error(Exception):
         kind: What the error is about. A kind that only a later library has is its number. None if
             the library does not report the error.
         number: The error's number among those of its kind, by docs/errors.txt; 0 without one.
-        place: The number of the event (LOG; the header is 0), the entry (LIST, REPLAY; from 0) or
-            the line (EXPECTED, KNOWN; from 1, through all texts of known files), or None.
+        place: The number of the event (LOG, LOG_FORM; the header is 0), the entry (LIST, REPLAY;
+            from 0) or the line (EXPECTED, TEXT_LIST, KNOWN; from 1, through all texts of known
+            files), or None.
     """
 
     def __init__(
@@ -51,7 +55,7 @@ class Refused(Error):
         """The line that `ima-agent` prints, such as `refused: replay fault 1 at entry 5`."""
         word = self.kind.value if isinstance(self.kind, Kind) else str(self.kind)
         place = "" if self.place is None else f" at {_PLACES.get(word, 'place')} {self.place}"
-        return f"refused: {word} fault {self.number}{place}"
+        return f"refused: {word.replace('_', ' ')} fault {self.number}{place}"
 
 
 class OutOfMemory(Error, MemoryError):

@@ -70,6 +70,16 @@ def flag_of(name: str, value: bool) -> bool:
     return value
 
 
+def log_of(log: Buffer, hcrtm: bool) -> dict[str, Any]:
+    """The arguments of a firmware event log, and whether its H-CRTM event tells where it began."""
+    return {"log": bytes_of("log", log), "hcrtm": flag_of("hcrtm", hcrtm)}
+
+
+def bound_log(log: Buffer, hcrtm: bool, old_kernel: bool) -> dict[str, Any]:
+    """The same, and whether a boot aggregate of it is taken as kernels before 5.8 make it."""
+    return {**log_of(log, hcrtm), "old_kernel": flag_of("old_kernel", old_kernel)}
+
+
 def some_bytes(data: Buffer) -> Buffer:
     """These bytes; in place of none a zero, which is refused as what is cut short. (To the library
     no bytes of a state, a key or a signature mean that there is none.)"""
@@ -141,8 +151,13 @@ def _nonce(quote: Quote) -> dict[str, Any]:
     return {"nonce_hex": text_of("nonce_hex", quote.nonce_hex)}
 
 
-def confirming(expected: Text | None, quote: Quote | None) -> dict[str, Any]:
-    """The arguments of what tells which PCRs match: the expected ones, a quote, or nothing."""
+def confirming(
+    expected: Text | None, quote: Quote | None, old_kernel: bool
+) -> dict[str, Any]:
+    """The arguments of what tells which PCRs match: the expected ones, a quote, or nothing. (Only
+    by a quote a boot aggregate is looked at.)"""
+    if flag_of("old_kernel", old_kernel) and quote is None:
+        raise TypeError("old_kernel is for a quote")
     if expected is not None and quote is not None:
         raise TypeError("expected or quote is given, and not both")
     if quote is not None:

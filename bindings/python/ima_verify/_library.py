@@ -35,11 +35,13 @@ NO_ERROR = 0
 KINDS = {
     1: Kind.ARGUMENT, 2: Kind.LOG, 3: Kind.LIST, 4: Kind.REPLAY, 5: Kind.EXPECTED,
     6: Kind.CHECKPOINT, 7: Kind.MEMORY, 8: Kind.QUOTE, 9: Kind.KEY, 10: Kind.KNOWN,
-    11: Kind.SIGNATURE,
+    11: Kind.SIGNATURE, 12: Kind.TEXT_LIST, 13: Kind.LOG_FORM,
 }
 NO_PLACE = c_uint64(-1).value
 # By what `boot` and `matching` tell which PCRs match.
 BY_EXPECTED, BY_QUOTE = 1, 2
+# What `convert` takes.
+CONVERT_LIST, CONVERT_LOG = 1, 2
 
 # A report on all 96 PCRs of 4 banks has less, even if all values differ.
 REPORT_CAPACITY = 32 * 1024
@@ -64,31 +66,33 @@ class ErrorInfo(ctypes.Structure):
 _QUOTED = "message key signature nonce nonce_hex require"
 _BY = f"by expected list {_QUOTED} allow_sha1 signature_checked"
 FUNCTIONS = {name: arguments.split() for name, arguments in {
-    "verdict": "log list expected require known checks_known json numbers",
-    "locate": "log list expected require json",
+    "verdict": "log hcrtm old_kernel list expected require known checks_known json numbers",
+    "locate": "log hcrtm list expected require json",
     "replay": "list expected require known checks_known json numbers",
-    "more": "log state more expected require known checks_known prefix json numbers next",
-    "attest": f"log state more {_QUOTED} known checks_known allow_sha1 signature_checked prefix "
-              "json numbers next",
+    "more": "log hcrtm old_kernel state more expected require known checks_known prefix json "
+            "numbers next",
+    "attest": f"log hcrtm old_kernel state more {_QUOTED} known checks_known allow_sha1 "
+              "signature_checked prefix json numbers next",
     "expected": "printed registers json",
-    "registers": "bytes of_list json",
+    "registers": "bytes of_list hcrtm json",
     "key": "area endorsement json",
-    "matching": f"log {_BY}",
-    "boot": f"log before compares {_BY} json",
+    "matching": f"log hcrtm old_kernel {_BY}",
+    "boot": f"log hcrtm old_kernel before compares {_BY} json",
     "events": "log matching matching_given offset number",
     "entries": "list offset number json",
+    "convert": "bytes conversion padding",
     "error_text": "error_kind error_number error_place",
 }.items()}
 
 # Their types: those of bytes, if they are not among these. No numbers of a verdict are asked for.
 _BYTES = c_void_p, c_size_t
 _OUTPUT = POINTER(c_char), c_size_t
-_FLAGS = ("checks_known", "json", "prefix", "allow_sha1", "signature_checked", "of_list",
-          "endorsement", "compares", "matching_given")
+_FLAGS = ("checks_known", "hcrtm", "old_kernel", "json", "prefix", "allow_sha1",
+          "signature_checked", "of_list", "endorsement", "compares", "matching_given")
 TYPES: dict[str, tuple[Any, ...]] = {
-    **dict.fromkeys(_FLAGS, (c_bool,)), "by": (c_uint32,),
+    **dict.fromkeys(_FLAGS, (c_bool,)), "by": (c_uint32,), "conversion": (c_uint32,),
     "numbers": (POINTER(c_uint64), c_size_t), "next": (*_OUTPUT, POINTER(c_size_t)),
-    "offset": (POINTER(c_size_t),), "number": (POINTER(c_size_t),),
+    **dict.fromkeys(("offset", "number", "padding"), (POINTER(c_size_t),)),
     "error_kind": (c_uint32,), "error_number": (c_uint32,), "error_place": (c_uint64,),
 }
 

@@ -7,7 +7,7 @@ from typing import TypeVar
 from . import _library
 from ._answers import read_entry, read_line
 from ._errors import LibraryError
-from ._inputs import Quote, Text, bytes_of, confirming
+from ._inputs import Quote, Text, bound_log, bytes_of, confirming
 from ._library import Buffer
 from ._results import Entry, Event, Header
 
@@ -59,15 +59,17 @@ class Events(Listing[Event]):
     """
 
     def __init__(
-        self, log: Buffer, *, expected: Text | None = None, quote: Quote | None = None
+        self, log: Buffer, *, expected: Text | None = None, quote: Quote | None = None,
+        hcrtm: bool = False, old_kernel: bool = False,
     ) -> None:
-        given, by = bytes_of("log", log), confirming(expected, quote)
+        given, by = bound_log(log, hcrtm, old_kernel), confirming(expected, quote, old_kernel)
         status, matching = _library.DONE, b""
         if by:
-            status, matching = _library.call("matching", log=given, **by)
+            status, matching = _library.call("matching", **given, **by)
         if status not in (_library.DONE, _library.DIFFERS):
             _library.unexpected(status, matching)
         self.quote_differs = status == _library.DIFFERS
-        lines = _library.lines("events", log=given, matching=matching, matching_given=bool(by))
+        matched = {"matching": matching, "matching_given": bool(by)}
+        lines = _library.lines("events", log=given["log"], **matched)
         self.header = read_line(Header, next(lines))
         super().__init__(read_line(Event, line) for line in lines)

@@ -111,7 +111,8 @@ class Verdict(_Judged):
         confirmed: How many first entries the verdict covers, from a session with `prefix`.
         unconfirmed: The first error after these.
         compared: How many expected PCRs were compared. Without one there is no match.
-        boot_aggregate: "good", "wrong", "nobank" (it is by a bank that the log lacks), "missing".
+        boot_aggregate: "good", "old_kernel" (it is as `old_kernel` takes it), "wrong", "nobank" (it
+            is by a bank that the log lacks), "missing".
         registers: The expected PCRs, compared, and then the required ones that are missing.
         extends: The first event of PCR 10, and the first entry of another, if PCRs are required.
         known_from: The first entry that was looked up among known files, if some were given.
@@ -175,6 +176,14 @@ class Places:
         return self.located
 
 
+@dataclass(frozen=True, slots=True)
+class ConvertedLog:
+    """A crypto-agile log, and how many bytes behind the last event were left out of it."""
+
+    log: bytes
+    padding: int
+
+
 @dataclass(frozen=True, slots=True, kw_only=True)
 class Key:
     """What the public area of a key states. It does not say whose TPM the key is in.
@@ -229,11 +238,20 @@ class Entry:
 
 
 @dataclass(frozen=True, slots=True, kw_only=True)
+class Certificate:
+    """A certificate, by its bytes alone: their SHA-256, and how many they are."""
+
+    sha256: bytes
+    size: int
+
+
+@dataclass(frozen=True, slots=True, kw_only=True)
 class Event:
     """An event of a firmware event log.
 
     Attributes:
         register: The PCR that it names. An `EV_NO_ACTION` extends none, so no PCR confirms it.
+        register_name: What systemd calls that PCR.
         measured: Which part of `data` was measured, by the banks in which one was: "data" (all),
             "value" (of a variable) or "command" (of GRUB). The rest, and the type, are claims.
         confirmed: Which part is confirmed, or "none", if `events` has expected PCRs or a quote.
@@ -243,6 +261,7 @@ class Event:
     json: str = field(repr=False)
     event: int
     register: int
+    register_name: str | None = None
     type: str | None = None
     type_number: int
     digests: dict[str, bytes]
@@ -250,6 +269,17 @@ class Event:
     measured: dict[str, str]
     confirmed: str | None = None
     content: dict[str, Any]
+
+    @property
+    def certificates(self) -> tuple[Certificate, ...]:
+        """The certificates in the value of a variable. `ima_verify.x509` reads them."""
+        variable = self.content.get("variable", {})
+        lists = (listed.get("certificates", ()) for listed in variable.get("lists", ()))
+        alone = variable.get("certificate") or variable.get("signature", {}).get("certificate")
+        found = [*([alone] if alone else []), *(each for listed in lists for each in listed)]
+        return tuple(
+            Certificate(sha256=bytes.fromhex(each["sha256"]), size=each["size"]) for each in found
+        )
 
 
 @dataclass(frozen=True, slots=True, kw_only=True)
@@ -301,6 +331,7 @@ class Command:
 
     command: int | str
     register: int
+    register_name: str | None = None
     text: str | None = None
     text_hex: bytes | None = None
     claimed: dict[str, Any] | None = None
@@ -326,11 +357,27 @@ class BootVariable:
 
 
 @dataclass(frozen=True, slots=True, kw_only=True)
+class Claim:
+    """What an event claims, which nothing confirms: besides `event` the members of one kind."""
+
+    event: int
+    secure_boot: str | None = None
+    firmware_version: dict[str, Any] | None = None
+    digests: dict[str, bytes] | None = None
+    image: dict[str, Any] | None = None
+    register: int | None = None
+    register_name: str | None = None
+    command: dict[str, Any] | None = None
+    boot_variable: dict[str, Any] | None = None
+
+
+@dataclass(frozen=True, slots=True, kw_only=True)
 class Alike:
     """A PCR of two boots: the first bank in which the logs differ, and how many first events have
     the same digests there; or "all", if each bank that answers has; or "unknown", if none does."""
 
     register: int
+    register_name: str | None = None
     bank: str | None = None
     alike: int | str
 
@@ -341,6 +388,7 @@ class Changed:
     in the bank in which the logs differ, and what its data claims."""
 
     register: int
+    register_name: str | None = None
     now: int | None = None
     before: int | None = None
     digest: bytes | None = None
@@ -356,6 +404,7 @@ class Boot:
         secure_boot: "on", "off" or "unknown".
         firmware_version: The content that states the version, or "unknown".
         boot_variables: BootOrder and each Boot####.
+        claimed: Without expected PCRs and quote, what events claim; all else is then unknown.
         alike: With an earlier log, each PCR that one of the logs extends.
         changed: With an earlier log, the events that one of both has.
     """
@@ -368,5 +417,6 @@ class Boot:
     commands: tuple[Command, ...] = ()
     ima_policy: ImaPolicy
     boot_variables: tuple[BootVariable, ...] = ()
+    claimed: tuple[Claim, ...] = ()
     alike: tuple[Alike, ...] = ()
     changed: tuple[Changed, ...] = ()

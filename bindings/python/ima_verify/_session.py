@@ -4,8 +4,8 @@ from typing import Any, TypeVar, overload
 
 from . import _answers, _library
 from ._inputs import (
-    NOTHING, Known, Quote, Required, Text, bytes_of, copy_of, flag_of, known_files, quoted,
-    required, some_bytes,
+    NOTHING, Known, Quote, Required, Text, bound_log, bytes_of, copy_of, flag_of, known_files,
+    quoted, required, some_bytes,
 )
 from ._library import Buffer
 from ._results import Attestation, Verdict
@@ -18,7 +18,7 @@ class Session:
     is new of it is given.
 
     Args:
-        log, expected, require: As for `verify`.
+        log, expected, require, hcrtm, old_kernel: As for `verify`.
         prefix: Whether the verdict is on the confirmed prefix, if there is one: as few first
             entries as make all PCRs match. What comes after them may be new, or damaged.
         state: The state of an earlier session, to continue from with a log of the same boot;
@@ -40,9 +40,11 @@ class Session:
 
     def __init__(
         self, log: Buffer, expected: Text, *, require: Required, prefix: bool = False,
-        state: Buffer | None = None, known: Known | None = None,
+        state: Buffer | None = None, known: Known | None = None, hcrtm: bool = False,
+        old_kernel: bool = False,
     ) -> None:
-        self._log = memoryview(bytes_of("log", log)).tobytes()
+        copied = memoryview(bytes_of("log", log)).tobytes()
+        self._log = bound_log(copied, hcrtm, old_kernel)
         self._judged = {"expected": copy_of("expected", expected), "require": required(require)}
         self._options = {**known_files(known), "prefix": flag_of("prefix", prefix)}
         self._state = None if state is None else memoryview(bytes_of("state", state)).tobytes()
@@ -50,11 +52,12 @@ class Session:
     @classmethod
     def by_quotes(
         cls, log: Buffer, *, prefix: bool = False, state: Buffer | None = None,
-        known: Known | None = None,
+        known: Known | None = None, hcrtm: bool = False, old_kernel: bool = False,
     ) -> "Session":
         """A session for `attest` alone: no PCRs are expected, and `more` raises `Misuse`. The state
         must be that of a session that used `attest` last."""
-        session = cls(log, b"", require=NOTHING, prefix=prefix, state=state, known=known)
+        options: dict[str, Any] = {"prefix": prefix, "state": state, "known": known, "hcrtm": hcrtm}
+        session = cls(log, b"", require=NOTHING, old_kernel=old_kernel, **options)
         session._judged["require"] = b""  # (which the library refuses)
         return session
 
@@ -105,7 +108,7 @@ class Session:
     def _ask(self, name: str, kind: type[_Verdict], **given: Any) -> _Verdict:
         """The verdict of a function of the library, which moves the state if it is a match."""
         state = b"" if self._state is None else some_bytes(self._state)
-        given = {"log": self._log, "state": state, **self._options, **given}
+        given = {**self._log, "state": state, **self._options, **given}
         status, text, following = _library.call_more(name, **given)
         verdict = _answers.read_verdict(kind, status, text)
         self._state = following or self._state

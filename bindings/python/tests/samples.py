@@ -27,7 +27,22 @@ LOG, LIST, EXPECTED, ASCII, REGISTERS, PRINTED = (
 KEY, MESSAGE, SIGNATURE = (
     sample(f"quoted/{name}") for name in ("AK.pem", "quote.msg", "quote.sig")
 )
+# The log with an event of an H-CRTM, and what then tells where PCR 0 began (StartupLocality).
+HCRTM = LOG + b"".join(
+    number.to_bytes(size, "little")
+    for number, size in ((0, 4), (0x80000010, 4), (1, 4), (11, 2), (7, 32), (0, 4))
+)
+TOLD = HCRTM + bytes((*4 * (0,), 3, *7 * (0,), 17, 0, 0, 0)) + b"StartupLocality\0\4"
 NONCE = bytes.fromhex(sample("quoted/nonce").decode())
+# A list whose boot aggregate is of PCRs 0 to 7 alone, the PCRs after it, and the quote of these.
+_VALUES = [bytes.fromhex(line.split()[2].decode()) for line in EXPECTED.splitlines()[:11]]
+_DATA = b"".join(len(part).to_bytes(4, "little") + part for part in (
+    b"sha256:\0" + hashlib.sha256(b"".join(_VALUES[:8])).digest(), b"boot_aggregate\0"))
+OLDER = b"".join((b"\n\0\0\0", hashlib.sha1(_DATA).digest(), b"\6\0\0\0ima-ng",
+                  len(_DATA).to_bytes(4, "little"), _DATA))
+_TENTH = hashlib.sha256(bytes(32) + hashlib.sha256(_DATA).digest()).digest()
+OLDER_EXPECTED = b"".join(EXPECTED.splitlines(True)[:10]) + f"sha256 10 {_TENTH.hex()}\n".encode()
+OLDER_MESSAGE = MESSAGE[:-32] + hashlib.sha256(b"".join([*_VALUES[:10], _TENTH])).digest()
 AREA = sample("keys/ak-p256.pub")
 # The files of the list, but for its violations.
 SUMS, VIOLATIONS = sample("known/SHA256SUMS"), (93, 94, 97)

@@ -28,7 +28,8 @@ PARTS = {
     "specification": ima_verify.Specification, "image": ima_verify.Image,
     "command": ima_verify.Command, "ima_policy": ima_verify.ImaPolicy,
     "boot_variable": ima_verify.BootVariable, "alike": ima_verify.Alike,
-    "changed": ima_verify.Changed,
+    "changed": ima_verify.Changed, "claim_data": ima_verify.Claim,
+    "certificate": ima_verify.Certificate,
 }
 VERDICTS = "verify", "attest", "replay"
 DONE, DIFFERS, REFUSED, OUT_OF_MEMORY, TOO_SHORT, MORE, MISUSED = range(7)
@@ -116,6 +117,15 @@ class Answers(unittest.TestCase):
         parts = (*found.images, *found.commands, found.ima_policy, *found.boot_variables,
                  *found.alike, *found.changed)
         self.assertEqual(members(parts), [json.loads(line) for line in BOOT[2:]])
+
+    def test_claims_are_read(self):
+        claim = {"event": 3, "register": 8, "register_name": "x", "command": {"text": "quiet"}}
+        lines = ['{"claimed":"all"}', json.dumps({"claimed": claim}), BOOT[6]]
+        found = read_boot(lines)
+        self.assertEqual((members(found.claimed), len(found.alike)), ([claim], 1))
+        self.assertEqual((found.secure_boot, found.ima_policy.ima_policy), ("unknown", "unknown"))
+        with self.assertRaises(ima_verify.LibraryError):
+            read_boot(lines[1:])
 
 
 class Later(unittest.TestCase):

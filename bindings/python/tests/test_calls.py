@@ -1,6 +1,7 @@
 """What the package answers, as the reference implementation answers the program's commands, and
 what crosses to the library."""
 
+import dataclasses
 import inspect
 import re
 import shutil
@@ -9,8 +10,9 @@ import unittest
 from concurrent.futures import ThreadPoolExecutor
 
 from samples import (
-    AREA, ASCII, BY_KEY, CHANGED, EXPECTED, KEY, LIST, LOG, LONGER, MESSAGE, NONCE, PRINTED,
-    QUOTED, REQUIRED, ROOT, SIGNATURE, SUMS, VIOLATIONS, sample, state_after,
+    AREA, ASCII, BY_KEY, CHANGED, EXPECTED, HCRTM, KEY, LIST, LOG, LONGER, MESSAGE, NONCE, OLDER,
+    OLDER_EXPECTED, OLDER_MESSAGE, PRINTED, QUOTED, REQUIRED, ROOT, SIGNATURE, SUMS, TOLD, VIOLATIONS,
+    sample, state_after,
 )
 
 import ima_verify
@@ -142,6 +144,72 @@ class Verdicts(unittest.TestCase):
         self.assertEqual((found.matches, found.signature), (False, "not checked"))
 
 
+    def test_event_of_an_hcrtm_tells_where_pcr_0_began(self):
+        for called in (
+            lambda log, **more: ima_verify.verify(log, LIST, EXPECTED, **REQUIRED, **more),
+            lambda log, **more: ima_verify.locate(log, LIST, EXPECTED, **REQUIRED, **more),
+            lambda log, **more: ima_verify.attest(*BY_KEY, log, LIST, **QUOTED, **more),
+            lambda log, **more: ima_verify.boot(log, expected=EXPECTED, **more),
+            lambda log, **more: Session(log, EXPECTED, **REQUIRED, **more).more(LIST),
+            ima_verify.registers,
+        ):
+            self.assertEqual(called(HCRTM, hcrtm=True), called(TOLD))
+            self.assertEqual(called(LOG, hcrtm=True), called(LOG))
+        zero = ima_verify.registers(TOLD)[0].value
+        for hcrtm, word in ((True, "data"), (False, "none")):
+            given = {"expected": f"sha256 0 {zero.hex()}\n", "hcrtm": hcrtm}
+            self.assertEqual(next(ima_verify.events(HCRTM, **given)).confirmed, word)
+
+    def test_boot_aggregate_of_an_older_kernel_is_taken_if_asked_for(self):
+        checked = {**QUOTED, "signature_checked": True}
+        quote = ima_verify.Quote(None, OLDER_MESSAGE, None, OLDER, **checked)
+        for called in (
+            lambda **more: ima_verify.verify(LOG, OLDER, OLDER_EXPECTED, **REQUIRED, **more),
+            lambda **more: Session(LOG, OLDER_EXPECTED, **REQUIRED, **more).more(OLDER),
+            lambda **more: ima_verify.attest(
+                None, OLDER_MESSAGE, None, LOG, OLDER, **checked, **more),
+            lambda **more: Session.by_quotes(LOG, **more).attest(
+                None, OLDER_MESSAGE, None, OLDER, **checked),
+        ):
+            for old_kernel, wanted in ((False, "wrong"), (True, "old_kernel")):
+                found = called(old_kernel=old_kernel)
+                self.assertEqual((found.matches, found.boot_aggregate), (old_kernel, wanted))
+        for old_kernel in (False, True):
+            given = {"quote": quote, "old_kernel": old_kernel}
+            self.assertEqual(ima_verify.boot(LOG, **given).quote_differs, not old_kernel)
+            self.assertEqual(ima_verify.events(LOG, **given).quote_differs, not old_kernel)
+        found = ima_verify.verify(LOG, OLDER, OLDER_EXPECTED, require=NOTHING, old_kernel=True)
+        self.assertEqual((found.matches, found.boot_aggregate), (False, "wrong"))
+        for called in (ima_verify.boot, ima_verify.events):
+            self.assertRaises(TypeError, called, LOG, expected=EXPECTED, old_kernel=True)
+
+
+class Conversions(unittest.TestCase):
+    def test_inputs_are_converted(self):
+        self.assertEqual(ima_verify.convert_list(ASCII), LIST)
+        first = ima_verify.convert_list(ASCII[: ASCII.index(b"\n") + 1].decode())
+        self.assertEqual((first, len(first) > 0), (LIST[: len(first)], True))
+        for padding in (0, 5, 70_000):
+            found = ima_verify.convert_log(LOG + padding * b"\xff")
+            self.assertEqual((found.log, found.padding), (LOG, padding))
+
+    def test_certificates_are_read(self):
+        found = [event for event in ima_verify.events(BEFORE) if event.certificates]
+        self.assertGreater(len(found), 3)
+        try:
+            from cryptography.hazmat.primitives.hashes import SHA256
+            from ima_verify import x509
+        except ImportError:
+            self.skipTest("cryptography is not installed")
+        for event in found:
+            prints = [each.fingerprint(SHA256()) for each in x509.certificates(event)]
+            self.assertEqual(prints, [each.sha256 for each in event.certificates])
+        value = found[0].content["variable"]["value"].replace("3082", "3083")
+        variable = {**found[0].content["variable"], "value": value}
+        with self.assertRaisesRegex(ima_verify.Error, "^A certificate cannot be read"):
+            x509.certificates(dataclasses.replace(found[0], content={"variable": variable}))
+
+
 class Refusals(unittest.TestCase):
     """Errors of the library."""
 
@@ -158,6 +226,9 @@ class Refusals(unittest.TestCase):
             (attest, (*BY_KEY, *two), {**REQUIRED, "nonce": bytes(16)}, Kind.QUOTE, 11, None),
             (ima_verify.boot, (LOG[:-1],), {"expected": EXPECTED}, Kind.LOG, 1, 24),
             (ima_verify.events, (b"",), {"quote": QUOTE}, Kind.LOG, 1, 0),
+            (ima_verify.convert_list, (ASCII.replace(b"/bin/helper", b"/bin/helpex"),), {},
+             Kind.TEXT_LIST, 3, 6),
+            (ima_verify.convert_log, (LIST,), {}, Kind.LOG_FORM, 13, None),
         ):
             with self.assertRaises(ima_verify.Refused) as caught:
                 called(*given, **more)
@@ -188,7 +259,7 @@ class Header(unittest.TestCase):
         self.assertEqual(f'"{ima_verify.__version__}"', numbers["PACKAGE_VERSION"])
         self.assertEqual(f"{ima_verify.__version__}\n", (ROOT / "VERSION").read_text())
         for name in ("VERSION", "DONE", "DIFFERS", "REFUSED", "OUT_OF_MEMORY", "TOO_SHORT", "MORE",
-                     "NO_ERROR", "BY_EXPECTED", "BY_QUOTE"):
+                     "NO_ERROR", "BY_EXPECTED", "BY_QUOTE", "CONVERT_LIST", "CONVERT_LOG"):
             self.assertEqual(getattr(_library, name), int(numbers[name]))
         for number, kind in _library.KINDS.items():
             self.assertEqual(int(numbers[kind.name]), number)
@@ -207,7 +278,7 @@ class Header(unittest.TestCase):
 class Types(unittest.TestCase):
     """Arguments of other types."""
 
-    TEXTS = {"expected": "", "key": "", "printed": "", "require": "sha256:10"}
+    TEXTS = {"expected": "", "key": "", "printed": "", "require": "sha256:10", "text": ""}
 
     def test_errors_name_the_argument(self):
         session = Session(b"", b"", require="sha256:10")
@@ -240,6 +311,8 @@ class Types(unittest.TestCase):
             (ima_verify.boot, {"log": b"", "expected": b""}, "quote", QUOTE),
             (ima_verify.events, {"log": b""}, "quote", b"", MESSAGE),
             (Session, {"log": b"", "expected": b"", "require": "x"}, "prefix", None, 1),
+            (ima_verify.registers, {"log": b""}, "hcrtm", None, 1),
+            (judge, {**evidence, **self.TEXTS}, "old_kernel", None, 1),
             (ima_verify.expected, {"printed": b""}, "registers", 10, b"10"),
         ):
             for wrong in wrongs:

@@ -1,7 +1,7 @@
 //! Calls the C library, as `bindings/c/ima_verify.h` describes it.
 
 use crate::reply::Reply;
-use crate::request::Shown;
+use crate::request::{Log, Shown};
 use crate::{Error, Quote};
 use ima_verify_sys as c;
 use std::ptr::NonNull;
@@ -65,9 +65,11 @@ fn known_in(known: Option<&[u8]>) -> (&[u8], bool) {
     (known.unwrap_or_default(), known.is_some())
 }
 
-pub(crate) fn verdict(log: &[u8], list: &[u8], expected: &[u8], require: &str, known: Option<&[u8]>, out: &mut Out) -> i32 {
+/// The whole list is `more`, and nothing is known of one before.
+pub(crate) fn verdict(inputs: &Grown<'_>, expected: &[u8], require: &str, out: &mut Out) -> i32 {
+    let &Grown { log, old_kernel, more, known, .. } = inputs;
     let (known, checks_known) = known_in(known);
-    call!(out, ima_verify_raw_verdict, [log, list, expected, require, known] checks_known, true, NO_NUMBERS, 0)
+    call!(out, ima_verify_raw_verdict, [log.bytes] log.hcrtm, old_kernel; [more, expected, require, known] checks_known, true, NO_NUMBERS, 0)
 }
 
 pub(crate) fn replay(list: &[u8], expected: &[u8], require: &str, known: Option<&[u8]>, out: &mut Out) -> i32 {
@@ -75,16 +77,20 @@ pub(crate) fn replay(list: &[u8], expected: &[u8], require: &str, known: Option<
     call!(out, ima_verify_raw_replay, [list, expected, require, known] checks_known, true, NO_NUMBERS, 0)
 }
 
-pub(crate) fn locate(log: &[u8], list: &[u8], expected: &[u8], require: &str, out: &mut Out) -> i32 {
-    call!(out, ima_verify_raw_locate, [log, list, expected, require] true)
+pub(crate) fn locate(log: Log<'_>, list: &[u8], expected: &[u8], require: &str, out: &mut Out) -> i32 {
+    call!(out, ima_verify_raw_locate, [log.bytes] log.hcrtm; [list, expected, require] true)
 }
 
 pub(crate) fn expected(printed: &[u8], selection: &str, out: &mut Out) -> i32 {
     call!(out, ima_verify_raw_expected, [printed, selection] false)
 }
 
-pub(crate) fn registers(bytes: &[u8], of_list: bool, out: &mut Out) -> i32 {
-    call!(out, ima_verify_raw_registers, [bytes] of_list, true)
+pub(crate) fn registers(of: Log<'_>, of_list: bool, out: &mut Out) -> i32 {
+    call!(out, ima_verify_raw_registers, [of.bytes] of_list, of.hcrtm, true)
+}
+
+pub(crate) fn convert(bytes: &[u8], conversion: u32, padding: &mut usize, out: &mut Out) -> i32 {
+    call!(out, ima_verify_raw_convert, [bytes] conversion, padding)
 }
 
 pub(crate) fn key(area: &[u8], endorsement: bool, out: &mut Out) -> i32 {
@@ -93,7 +99,8 @@ pub(crate) fn key(area: &[u8], endorsement: bool, out: &mut Out) -> i32 {
 
 /// The inputs of a call on a list that grows.
 pub(crate) struct Grown<'a> {
-    pub(crate) log: &'a [u8],
+    pub(crate) log: Log<'a>,
+    pub(crate) old_kernel: bool,
     pub(crate) state: &'a [u8],
     pub(crate) more: &'a [u8],
     pub(crate) known: Option<&'a [u8]>,
@@ -101,35 +108,35 @@ pub(crate) struct Grown<'a> {
 }
 
 pub(crate) fn verify_more(inputs: &Grown<'_>, expected: &[u8], require: &str, out: &mut Out) -> i32 {
-    let &Grown { log, state, more, known, prefix } = inputs;
+    let &Grown { log, old_kernel, state, more, known, prefix } = inputs;
     let (known, checks_known) = known_in(known);
     let (next, next_capacity) = (out.next.as_mut_ptr(), out.next.len());
-    call!(out, ima_verify_raw_more, [log, state, more, expected, require, known]
+    call!(out, ima_verify_raw_more, [log.bytes] log.hcrtm, old_kernel; [state, more, expected, require, known]
         checks_known, prefix, true, NO_NUMBERS, 0, next, next_capacity, &mut out.next_size)
 }
 
 pub(crate) fn attest(inputs: &Grown<'_>, quote: &Quote<'_>, out: &mut Out) -> i32 {
-    let &Grown { log, state, more, known, prefix } = inputs;
+    let &Grown { log, old_kernel, state, more, known, prefix } = inputs;
     let (known, checks_known) = known_in(known);
     let [message, key, signature, nonce, nonce_hex, require] = quote.parts();
     let (next, next_capacity) = (out.next.as_mut_ptr(), out.next.len());
-    call!(out, ima_verify_raw_attest, [log, state, more, message, key, signature, nonce, nonce_hex, require, known]
-        checks_known, quote.allow_sha1, quote.is_checked(), prefix, true, NO_NUMBERS, 0, next, next_capacity, &mut out.next_size)
+    call!(out, ima_verify_raw_attest, [log.bytes] log.hcrtm, old_kernel;
+        [state, more, message, key, signature, nonce, nonce_hex, require, known] checks_known, quote.allow_sha1, quote.is_checked(), prefix, true, NO_NUMBERS, 0, next, next_capacity, &mut out.next_size)
 }
 
-pub(crate) fn matching(log: &[u8], shown: &Shown<'_>, out: &mut Out) -> i32 {
+pub(crate) fn matching(log: Log<'_>, shown: &Shown<'_>, out: &mut Out) -> i32 {
     let Shown { by, expected, list, quote } = shown;
     let [message, key, signature, nonce, nonce_hex, require] = quote.parts();
-    call!(out, ima_verify_raw_matching, [log] *by; [expected, list, message, key, signature, nonce, nonce_hex, require]
-        quote.allow_sha1, quote.is_checked())
+    call!(out, ima_verify_raw_matching, [log.bytes] log.hcrtm, quote.old_kernel, *by;
+        [expected, list, message, key, signature, nonce, nonce_hex, require] quote.allow_sha1, quote.is_checked())
 }
 
-pub(crate) fn boot(log: &[u8], before: Option<&[u8]>, shown: &Shown<'_>, out: &mut Out) -> i32 {
+pub(crate) fn boot(log: Log<'_>, before: Option<&[u8]>, shown: &Shown<'_>, out: &mut Out) -> i32 {
     let Shown { by, expected, list, quote } = shown;
     let [message, key, signature, nonce, nonce_hex, require] = quote.parts();
     let (before, compares) = (before.unwrap_or_default(), before.is_some());
-    call!(out, ima_verify_raw_boot, [log, before] compares, *by; [expected, list, message, key, signature, nonce, nonce_hex, require]
-        quote.allow_sha1, quote.is_checked(), true)
+    call!(out, ima_verify_raw_boot, [log.bytes] log.hcrtm, quote.old_kernel; [before] compares, *by;
+        [expected, list, message, key, signature, nonce, nonce_hex, require] quote.allow_sha1, quote.is_checked(), true)
 }
 
 /// What lines are of: a list or a log, and for events the PCRs that match, as [`matching`] gives them.

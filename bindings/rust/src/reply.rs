@@ -93,6 +93,8 @@ fn kind_of(number: u32) -> Kind {
         c::IMA_VERIFY_KEY => Kind::Key,
         c::IMA_VERIFY_KNOWN => Kind::Known,
         c::IMA_VERIFY_SIGNATURE => Kind::Signature,
+        c::IMA_VERIFY_TEXT_LIST => Kind::TextList,
+        c::IMA_VERIFY_LOG_FORM => Kind::LogForm,
         later => Kind::Other(later.to_string()),
     }
 }

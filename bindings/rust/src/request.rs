@@ -6,25 +6,53 @@ use ima_verify_sys as c;
 /// A requirement that names no PCR. The verdict is a match only if some PCR was compared.
 pub const NOTHING_REQUIRED: &str = "none";
 
-/// What a verdict requires: PCRs that must be among the expected ones, and maybe that each file is known.
+/// A firmware event log. Calls take its bytes, or this.
+#[derive(Debug, Clone, Copy, PartialEq, Eq)]
+pub struct Log<'a> {
+    pub(crate) bytes: &'a [u8],
+    pub(crate) hcrtm: bool,
+}
+
+impl<'a> Log<'a> {
+    /// A log whose event EV_EFI_HCRTM_EVENT in PCR 0 tells that PCR 0 began at 4, if no event tells a locality (TPM 2.0 Library, part 1, 34.3).
+    pub fn hcrtm(bytes: &'a [u8]) -> Self {
+        Self { bytes, hcrtm: true }
+    }
+}
+
+impl<'a, T: AsRef<[u8]> + ?Sized> From<&'a T> for Log<'a> {
+    fn from(bytes: &'a T) -> Self {
+        Self { bytes: bytes.as_ref(), hcrtm: false }
+    }
+}
+
+/// What a verdict requires: PCRs that must be among the expected ones, and maybe that each file is known; and whether an older kernel's boot
+/// aggregate is taken.
 #[derive(Debug, Clone, Copy)]
 pub struct Required<'a> {
     pub(crate) registers: &'a str,
     pub(crate) known: Option<&'a [&'a [u8]]>,
+    pub(crate) old_kernel: bool,
 }
 
 impl<'a> Required<'a> {
     /// These PCRs, and that each entry but the boot aggregate is of a known file: one whose digest these texts have, as sha256sum, sha384sum and
     /// sha512sum print them. The verdict has the others in `unknown`. Without a text no file is known. An error counts the lines of all texts.
     pub fn known(registers: &'a str, texts: &'a [&'a [u8]]) -> Self {
-        Self { registers, known: Some(texts) }
+        Self { registers, known: Some(texts), old_kernel: false }
+    }
+
+    /// A boot aggregate over PCRs 0 to 7 is taken, as kernels before 5.8 make it: [`BootAggregate::OldKernel`](crate::BootAggregate::OldKernel).
+    /// With [`NOTHING_REQUIRED`] none is taken.
+    pub fn old_kernel(self) -> Self {
+        Self { old_kernel: true, ..self }
     }
 }
 
-/// These PCRs, such as `sha256:0-10`, and no known files.
+/// These PCRs, such as `sha256:0-10`, no known files, and no older kernel.
 impl<'a, T: AsRef<str> + ?Sized> From<&'a T> for Required<'a> {
     fn from(registers: &'a T) -> Self {
-        Self { registers: registers.as_ref(), known: None }
+        Self { registers: registers.as_ref(), known: None, old_kernel: false }
     }
 }
 
@@ -59,12 +87,14 @@ pub struct Quote<'a> {
     pub(crate) nonce: Nonce<'a>,
     pub(crate) require: &'a str,
     pub(crate) allow_sha1: bool,
+    pub(crate) old_kernel: bool,
     pub(crate) known: Option<&'a [&'a [u8]]>,
 }
 
 impl<'a> Quote<'a> {
     /// No quote.
-    const NONE: Self = Self { signing: Signing::NotChecked, message: &[], nonce: Nonce::Bytes(&[]), require: "", allow_sha1: false, known: None };
+    const NONE: Self =
+        Self { signing: Signing::NotChecked, message: &[], nonce: Nonce::Bytes(&[]), require: "", allow_sha1: false, old_kernel: false, known: None };
 
     /// A quote with this message: what the TPM signed, a TPMS_ATTEST, the file that `tpm2_quote -m` writes. It must have the nonce, and
     /// select the required PCRs, at least 0 to 10, such as `sha256:0-10`.
@@ -75,6 +105,11 @@ impl<'a> Quote<'a> {
     /// PCRs may be required in the SHA-1 bank alone.
     pub fn allow_sha1(self) -> Self {
         Self { allow_sha1: true, ..self }
+    }
+
+    /// A boot aggregate over PCRs 0 to 7 is taken, as for [`Required::old_kernel`].
+    pub fn old_kernel(self) -> Self {
+        Self { old_kernel: true, ..self }
     }
 
     /// Entries must be of these known files, as for [`Required::known`]. In a session they replace its own.
@@ -134,7 +169,7 @@ pub enum Signing<'a> {
 pub enum Evidence<'a> {
     /// The text of expected PCRs, as [`verify`](crate::verify) takes it.
     Expected(&'a [u8]),
-    /// A quote. It confirms events only if [`attest`](crate::attest) finds a match for the log, this list and the quote.
+    /// A quote. It confirms events of the PCRs that it requires, if [`attest`](crate::attest) finds a match for the log, this list and the quote.
     Quote {
         /// The measurement list.
         list: &'a [u8],

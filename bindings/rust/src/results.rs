@@ -184,6 +184,7 @@ results! {
     Event json {
         event: u64, "The event's number.";
         register: u32, "The PCR that it names. An event of the type `EV_NO_ACTION` extends none, whatever digests it states, so no PCR confirms it.";
+        register_name: Option<String>, "What systemd calls it.";
         event_type as "type": Option<String>, "The name of the type, if it has one.";
         type_number: u32, "The number of the type.";
         digests: Digests, "Those of the log's banks.";
@@ -204,6 +205,7 @@ results! {
     Command {
         command: Answer<u64>, "The event's number. A word: texts of the PCR from `event` on are not reported, and without `event` none is.";
         register: u8, "The PCR, 8 or 12.";
+        register_name: Option<String>, "What systemd calls it.";
         text: Option<String>, "The text.";
         text_hex: Option<Bytes>, "Its bytes, if it is not valid in its encoding.";
         claimed: Option<CommandData>, "What the data claims of the text, if a command of GRUB was measured: its kind.";
@@ -216,9 +218,23 @@ results! {
     /// A variable that says what the firmware boots, `BootOrder` or a `Boot####`.
     BootVariable { boot_variable: Answer<u64>, "The event's number."; content: Option<Content>, "What its data says."; }
 
+    /// What an event claims, which nothing confirms: of the members after `event` those of one kind.
+    Claim {
+        event: u64, "The event's number.";
+        secure_boot: Option<SecureBoot>, "Whether Secure Boot was on.";
+        firmware_version: Option<Content>, "The firmware's version.";
+        digests: Option<Digests>, "The digests of an image.";
+        image: Option<Content>, "The image.";
+        register: Option<u8>, "The PCR of a command.";
+        register_name: Option<String>, "What systemd calls it.";
+        command: Option<Content>, "A text that a boot loader measured.";
+        boot_variable: Option<Content>, "A variable that says what the firmware boots.";
+    }
+
     /// How two logs extend a PCR.
     Alike {
         register: u8, "The PCR.";
+        register_name: Option<String>, "What systemd calls it.";
         bank: Option<Algorithm>, "The first bank in which the logs differ.";
         alike: Answer<u64>, "How many first events have the same digests in that bank, or that all have in each bank that answers.";
     }
@@ -226,6 +242,7 @@ results! {
     /// An event that one of two logs has.
     Changed {
         register: u8, "The PCR.";
+        register_name: Option<String>, "What systemd calls it.";
         now: Option<u64>, "The event's number in the log.";
         before: Option<u64>, "Its number in the earlier log, if it is of that one.";
         digest: Option<Bytes>, "Its digest in the bank in which the logs differ, if it has one.";
@@ -327,12 +344,14 @@ results! {
         text_hex: Option<Bytes>, "Its bytes, if it is not valid in its encoding.";
         guid: Option<String>, "A GUID.";
         locality: Option<u8>, "The startup locality.";
+        technology: Option<u8>, "How a host keeps its guests apart.";
         command: Option<CommandData>, "A command of GRUB.";
         variable: Option<Variable>, "A variable of UEFI.";
         image: Option<ImageData>, "An image that was loaded.";
         gpt: Option<Gpt>, "A partition table.";
         blob: Option<Blob>, "A part of the firmware in memory.";
         tagged: Option<Tagged>, "A tagged event.";
+        handoff: Option<Handoff>, "Vendor tables that firmware hands over.";
         #[serde(default)] unknown: bool, "The data has no form of the event's type that the library knows.";
     }
 
@@ -343,16 +362,19 @@ results! {
         text_hex: Option<Bytes>, "Its bytes, if it is not valid in its encoding.";
     }
 
-    /// A variable of UEFI. Of `flag`, `order`, `option`, `signature` and `lists` one is there, by vendor and name, or none.
+    /// A variable of UEFI. Of the fields from `flag` on one is there, by vendor and name, or none.
     Variable {
         guid: String, "The vendor.";
         name: Option<String>, "The name.";
         name_hex: Option<Bytes>, "Its bytes, if it is not valid in its encoding.";
         value: Bytes, "The value.";
+        rest: Option<Bytes>, "The bytes behind the variable.";
         flag: Option<u8>, "What the value says: a byte.";
         order: Option<Vec<String>>, "The numbers of load options, in the order in which they are tried: the four digits of a `Boot####`.";
         option: Option<LoadOption>, "A load option.";
+        certificate: Option<Certificate>, "A certificate, without an owner, which the value is.";
         signature: Option<UefiSignature>, "A signature, a key or a hash.";
+        level: Option<String>, "The levels of SBAT.";
         lists: Option<Vec<UefiSignatureList>>, "Lists of signatures, of keys or of hashes.";
     }
 
@@ -363,6 +385,7 @@ results! {
         link_address: String, "The address that it was linked for, likewise.";
         path: Option<String>, "Its device path.";
         path_hex: Option<Bytes>, "Its bytes, if it is not whole nodes.";
+        rest: Option<Bytes>, "The bytes behind the image's form.";
     }
 
     /// A partition table.
@@ -390,6 +413,20 @@ results! {
     /// A tagged event.
     Tagged { id: u32, "The tag."; text: Option<String>, "The data, if it is text."; data: Option<Bytes>, "The data, if it is not."; }
 
+    /// Vendor tables that firmware hands over.
+    Handoff {
+        description: Option<String>, "What they are, if that is said.";
+        description_hex: Option<Bytes>, "Its bytes, if it is not valid in its encoding.";
+        tables: Vec<VendorTable>, "The tables.";
+    }
+
+    /// A vendor table.
+    VendorTable {
+        guid: String, "Which table it is.";
+        name: Option<String>, "What Linux or EDK2 calls the GUID, if it is a known one.";
+        address: String, "Where it is in memory, as `0x` and hexadecimal digits.";
+    }
+
     /// A load option.
     LoadOption {
         attributes: u32, "Its attributes.";
@@ -401,13 +438,21 @@ results! {
     }
 
     /// A signature of UEFI.
-    UefiSignature { owner: String, "The GUID of its owner."; data: Bytes, "The certificate, or the hash."; }
+    UefiSignature {
+        owner: String, "The GUID of its owner.";
+        data: Bytes, "The certificate, or the hash.";
+        certificate: Option<Certificate>, "The certificate, if it is one.";
+    }
+
+    /// A certificate, by its bytes alone.
+    Certificate { sha256: Bytes, "Its fingerprint: their SHA-256."; size: u64, "How many they are."; }
 
     /// A list of signatures.
     UefiSignatureList {
         list_type as "type": String, "The GUID of the signatures' type.";
         count: u32, "How many there are.";
         owners: Vec<String>, "The owner of each signature whose owner differs from that of the signature before it.";
+        certificates: Option<Vec<Certificate>>, "The certificates that they are.";
     }
 
     /// What the fields of `ima-ngv2`, `ima-sigv2`, `ima-buf`, `ima-modsig` and `evm-sig` say (docs/formats.md). A template has only some of

@@ -4,13 +4,15 @@ use crate::library::{self, ask, Grown, Out, DONE};
 use crate::reply::Reply;
 use crate::request::{lines_of, some_bytes};
 use crate::results::Line;
-use crate::{Attestation, Error, Quote, Required, Verdict};
+use crate::{Attestation, Error, Log, Quote, Required, Verdict};
 
 /// Verdicts on a measurement list that grows: each is on all of the list so far, but only what is new of it is given.
 #[derive(Debug, Clone)]
 #[must_use]
 pub struct Session {
     log: Vec<u8>,
+    hcrtm: bool,
+    old_kernel: bool,
     expected: Vec<u8>,
     require: String,
     known: Option<Vec<u8>>,
@@ -21,14 +23,14 @@ pub struct Session {
 impl Session {
     /// A session on a list from its start. The arguments are as in [`verify`](crate::verify), and are copied. What the state covers is not looked up
     /// again among known files: if other files are known now, begin a new session with the whole list.
-    pub fn new<'a>(log: &[u8], expected: &[u8], require: impl Into<Required<'a>>) -> Self {
-        let Required { registers, known } = require.into();
-        let (log, expected, require) = (log.to_vec(), expected.to_vec(), registers.to_owned());
-        Self { log, expected, require, known: known.map(lines_of), prefix: false, state: None }
+    pub fn new<'a>(log: impl Into<Log<'a>>, expected: &[u8], require: impl Into<Required<'a>>) -> Self {
+        let (Log { bytes, hcrtm }, Required { registers, known, old_kernel }) = (log.into(), require.into());
+        let (log, expected, require) = (bytes.to_vec(), expected.to_vec(), registers.to_owned());
+        Self { log, hcrtm, old_kernel, expected, require, known: known.map(lines_of), prefix: false, state: None }
     }
 
     /// A session for [`attest`](Self::attest) alone: no PCRs are expected, and [`more`](Self::more) gives an error.
-    pub fn by_quotes(log: &[u8]) -> Self {
+    pub fn by_quotes<'a>(log: impl Into<Log<'a>>) -> Self {
         Self::new(log, &[], "")
     }
 
@@ -50,7 +52,7 @@ impl Session {
     /// Numbers of entries, even in an error, are those of the whole list. After an error, and after a verdict that is no match,
     /// the session is as it was before: give these bytes again. A state that is damaged, even an empty one, or of another boot is refused.
     pub fn more(&mut self, data: &[u8]) -> Result<Verdict, Error> {
-        let inputs = self.inputs(data, self.known.as_deref());
+        let inputs = self.inputs(data, self.known.as_deref(), self.old_kernel);
         let call = |out: &mut Out| library::verify_more(&inputs, &self.expected, &self.require, out);
         let reply = ask(Out::for_text_and_state()?, call)?;
         self.take(reply)
@@ -60,11 +62,12 @@ impl Session {
     ///
     /// A state is continued by a quote only in its boot: `resets` and `restarts` of the quote's clock are those of the last quote, and
     /// the state is that of a session that used this function last. After a suspend, which counts as a restart, begin a new session with
-    /// the whole list. The known files are those of the quote, or of the session if the quote has none.
+    /// the whole list. The known files are those of the quote, or of the session if the quote has none; an older
+    /// kernel's boot aggregate is taken if the quote says so.
     pub fn attest(&mut self, data: &[u8], quote: &Quote<'_>) -> Result<Attestation, Error> {
         let of_quote = quote.known.map(lines_of);
         let known = of_quote.as_deref().or(self.known.as_deref());
-        let reply = attested(&self.inputs(data, known), quote)?;
+        let reply = attested(&self.inputs(data, known, quote.old_kernel), quote)?;
         self.take(reply)
     }
 
@@ -80,8 +83,9 @@ impl Session {
         self.state().and_then(offset_of).unwrap_or_default()
     }
 
-    fn inputs<'a>(&'a self, more: &'a [u8], known: Option<&'a [u8]>) -> Grown<'a> {
-        Grown { log: &self.log, state: self.state().map(some_bytes).unwrap_or_default(), more, known, prefix: self.prefix }
+    fn inputs<'a>(&'a self, more: &'a [u8], known: Option<&'a [u8]>, old_kernel: bool) -> Grown<'a> {
+        let log = Log { bytes: &self.log, hcrtm: self.hcrtm };
+        Grown { log, old_kernel, state: self.state().map(some_bytes).unwrap_or_default(), more, known, prefix: self.prefix }
     }
 
     /// What a reply says, and its state, if it is a match.

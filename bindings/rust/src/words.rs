@@ -58,6 +58,7 @@ words! {
     /// How the list's first entry compares with the PCRs after the log.
     BootAggregate {
         Good = "good", "It is the boot aggregate of these PCRs.";
+        OldKernel = "old_kernel", "It is that of PCRs 0 to 7, as an older kernel makes it, and that is taken.";
         Wrong = "wrong", "It is a boot aggregate, of other values.";
         NoBank = "nobank", "It is one of a bank that the log lacks.";
         Missing = "missing", "The list is empty, or its first entry is something else.";
@@ -159,5 +160,7 @@ words! {
         Key = "key", "The public area of a key: it is not one (1 to 10), or the key lacks what its purpose needs (11 to 22).";
         Known = "known", "A line of the known files has a digest by SHA-1 (1), or is no digest and name (2).";
         Signature = "signature", "The signature of a quote: it is not one (1 to 4), or not the key's (5 to 7), or the key is not taken (8, 9).";
+        TextList = "text_list", "The text of a list, which is converted: a line is not that of a genuine entry.";
+        LogForm = "log_form", "The log that is converted: it is in no form of a firmware event log.";
     }
 }

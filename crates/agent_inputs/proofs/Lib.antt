@@ -1,2 +1,3 @@
 pub mod LoadingLemmas
 pub mod HashingLaws
+pub mod OpeningLaws

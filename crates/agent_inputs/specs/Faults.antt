@@ -11,6 +11,12 @@ use Rattle.boot_log.specs.Names.{log_fault, log_fault_event, log_fault_number}
 use Rattle.ima_list.specs.declared.fault.ListFault.{ListFault}
 use Rattle.ima_list.specs.declared.fault.ListFault.TheVariants as lists
 use Rattle.ima_list.specs.Names.{list_fault_entry, list_fault_number, replay_fault_entry, replay_fault_number}
+use Rattle.list_imports.specs.declared.fault.ListImportFault.{ListImportFault}
+use Rattle.list_imports.specs.declared.fault.ListImportFault.TheVariants as texts
+use Rattle.list_imports.specs.Names.{list_import_fault_line, list_import_fault_number}
+use Rattle.log_imports.specs.declared.fault.LogImportFault.{LogImportFault}
+use Rattle.log_imports.specs.declared.fault.LogImportFault.TheVariants as forms
+use Rattle.log_imports.specs.Names.{import_fault_event, import_fault_number}
 use Rattle.measure_book.specs.declared.fault.BookFault.{BookFault}
 use Rattle.measure_book.specs.declared.fault.BookFault.TheVariants as books
 use Rattle.measure_book.specs.declared.gathers.GatherFault.TheVariants as gathers
@@ -55,6 +61,16 @@ abbrev pub fault_of_list : ListFault → RunFault
 fault_of_list lists.Memory = runs.Memory
 fault_of_list fault = runs.List fault
 
+-- Why a text is not a list as text.
+abbrev pub fault_of_list_text : ListImportFault → RunFault
+fault_of_list_text texts.Memory = runs.Memory
+fault_of_list_text fault = runs.ListText fault
+
+-- Why bytes are no log in a form that is converted.
+abbrev pub fault_of_log_form : LogImportFault → RunFault
+fault_of_log_form forms.Memory = runs.Memory
+fault_of_log_form fault = runs.LogForm fault
+
 abbrev pub fault_of_expected : ExpectFault → RunFault
 fault_of_expected expects.Memory = runs.Memory
 fault_of_expected fault = runs.Expect fault
@@ -89,6 +105,9 @@ head_with kind number place = record { kind = kind; number = number; place = pla
 abbrev pub fault_head : RunFault → FaultHead
 fault_head (runs.Log logs.Memory) = head_with kinds.Memory None None
 fault_head (runs.List lists.Memory) = head_with kinds.Memory None None
+fault_head (runs.ListText texts.Memory) = head_with kinds.Memory None None
+fault_head (runs.LogForm forms.Memory) = head_with kinds.Memory None None
+fault_head (runs.LogForm (forms.Log logs.Memory)) = head_with kinds.Memory None None
 fault_head (runs.Expect expects.Memory) = head_with kinds.Memory None None
 fault_head (runs.Book books.Memory) = head_with kinds.Memory None None
 fault_head (runs.Outcome job books.Memory) = head_with kinds.Memory None None
@@ -100,6 +119,8 @@ fault_head runs.NotHex = head_with kinds.NotHex None None
 fault_head (runs.Log fault) = head_with kinds.Log (Some (log_fault_number fault)) (log_fault_event fault)
 fault_head (runs.List fault) = head_with kinds.List (Some (list_fault_number fault)) (list_fault_entry fault)
 fault_head (runs.Replay fault) = head_with kinds.Replay (Some (replay_fault_number fault)) (Some (replay_fault_entry fault))
+fault_head (runs.ListText fault) = head_with kinds.ListText (Some (list_import_fault_number fault)) (list_import_fault_line fault)
+fault_head (runs.LogForm fault) = head_with kinds.LogForm (Some (import_fault_number fault)) (import_fault_event fault)
 fault_head (runs.Expect fault) = head_with kinds.Expect (Some (expect_fault_number fault)) (expect_fault_line fault)
 fault_head (runs.Quote refusal) = head_with kinds.Quote (Some (quote_refusal_number refusal)) None
 fault_head (runs.Signature refusal) = head_with kinds.Signature (Some (signature_refusal_number refusal)) None

@@ -1,3 +1,4 @@
 pub mod Loading
+pub mod Opening
 pub mod Faults
 pub mod System

@@ -1,7 +1,7 @@
 //! Why the program failed.
 
 ghost use Rattle.std.specs.Prelude.{◌≡◌, ℕ};
-ghost use Rattle.agent_inputs.specs.Faults.{fault_head, head_with, fault_of_check, fault_of_expected, fault_of_known, fault_of_list, fault_of_log, fault_of_arguments, not_resumed_number};
+ghost use Rattle.agent_inputs.specs.Faults.{fault_head, head_with, fault_of_check, fault_of_expected, fault_of_known, fault_of_list, fault_of_list_text, fault_of_log, fault_of_log_form, fault_of_arguments, not_resumed_number};
 ghost use Rattle.agent_inputs.specs.declared.fault.RunFault.TheVariants.{Key, Known, Memory, Quote};
 
 use agent_plans::ArgumentsFault;
@@ -10,6 +10,8 @@ use boot_log::LogFault;
 use boot_verdict::{CheckpointFault, ResumeFault};
 use ima_list::{ListFault, ReplayFault};
 use known_files::KnownFault;
+use list_imports::ListImportFault;
+use log_imports::LogImportFault;
 use measure_book::{BookFault, GatherFault};
 use pcr_values::ExpectFault;
 use signed_messages::{CheckFault, SignatureRefusal};
@@ -62,6 +64,10 @@ pub enum RunFault {
     List(ListFault),
     /// An entry of the list is not genuine.
     Replay(ReplayFault),
+    /// An input is not a measurement list as text.
+    ListText(ListImportFault),
+    /// An input is not a firmware event log in a form that is converted.
+    LogForm(LogImportFault),
     /// An input does not state expected registers, or was not printed by tpm2-tools as one that states some.
     Expect(ExpectFault),
     /// An input is not the quote that is asked for.
@@ -110,6 +116,8 @@ pub enum FaultKind {
     Log,
     List,
     Replay,
+    ListText,
+    LogForm,
     Expect,
     Quote,
     Signature,
@@ -155,6 +163,8 @@ impl RunFault {
         let (kind, number, place) = match self {
             RunFault::Log(LogFault::Memory)
             | RunFault::List(ListFault::Memory)
+            | RunFault::ListText(ListImportFault::Memory)
+            | RunFault::LogForm(LogImportFault::Memory | LogImportFault::Log(LogFault::Memory))
             | RunFault::Expect(ExpectFault::Memory)
             | RunFault::Book(BookFault::Memory)
             | RunFault::Outcome {
@@ -170,6 +180,10 @@ impl RunFault {
             RunFault::Replay(fault) => {
                 (FaultKind::Replay, Some(fault.number()), Some(fault.entry()))
             }
+            RunFault::ListText(fault) => {
+                (FaultKind::ListText, Some(fault.number()), fault.line())
+            }
+            RunFault::LogForm(fault) => (FaultKind::LogForm, Some(fault.number()), fault.event()),
             RunFault::Expect(fault) => (FaultKind::Expect, Some(fault.number()), fault.line()),
             RunFault::Quote(refusal) => (FaultKind::Quote, Some(refusal.number()), None),
             RunFault::Signature(refusal) => (FaultKind::Signature, Some(refusal.number()), None),
@@ -218,6 +232,8 @@ impl fmt::Display for RunFault {
             RunFault::Log(fault) => say_fault("", fault, f),
             RunFault::List(fault) => say_fault("", fault, f),
             RunFault::Replay(fault) => say_fault("", fault, f),
+            RunFault::ListText(fault) => say_fault("", fault, f),
+            RunFault::LogForm(fault) => say_fault("", fault, f),
             RunFault::Expect(fault) => say_fault("", fault, f),
             RunFault::Quote(refusal) => say_fault("", refusal, f),
             RunFault::Signature(refusal) => say_fault("", refusal, f),
@@ -304,6 +320,28 @@ impl From<ListFault> for RunFault {
         match fault {
             ListFault::Memory => RunFault::Memory,
             other => RunFault::List(other),
+        }
+    }
+}
+
+impl From<ListImportFault> for RunFault {
+    ghost from_gives = { λ import_fault fault. fault ≡ fault_of_list_text import_fault };
+
+    fn from(fault: ListImportFault) -> Self {
+        match fault {
+            ListImportFault::Memory => RunFault::Memory,
+            other => RunFault::ListText(other),
+        }
+    }
+}
+
+impl From<LogImportFault> for RunFault {
+    ghost from_gives = { λ import_fault fault. fault ≡ fault_of_log_form import_fault };
+
+    fn from(fault: LogImportFault) -> Self {
+        match fault {
+            LogImportFault::Memory => RunFault::Memory,
+            other => RunFault::LogForm(other),
         }
     }
 }

@@ -178,10 +178,10 @@ pub fn read_through<R: Source>(alloc: Global, source: &mut R, limit: u64) -> Res
 pub const INPUT_LIMIT: u64 = 64 * 1024 * 1024;
 
 /// The name of standard input in faults.
-const STANDARD_INPUT: &str = "-";
+pub const STANDARD_INPUT: &str = "-";
 
 // All bytes of an input, or why it was not loaded.
-type Loaded = Result<Vec<u8>, RunFault>;
+pub(crate) type Loaded = Result<Vec<u8>, RunFault>;
 
 /// All bytes, at most 64 MiB, of the file of this name, or of standard input without a name. A fault names the input; standard
 /// input is `-`.

@@ -1,6 +1,7 @@
 -- What is to be done, and the plans that request it.
-use Rattle.std.specs.Prelude.{◌≡◌, ◌≤◌, ◌<◌, ◌^◌, not, Bool, false, true, Option, None, Some, is_some, String, vec_len}
+use Rattle.std.specs.Prelude.{◌≡◌, ◌≤◌, ◌<◌, ◌^◌, ◌&&◌, not, Bool, false, true, Option, None, Some, is_some, String, vec_len}
 use Rattle.std.specs.Global.{Global, Vec}
+pub use Rattle.agent_plans.specs.declared.plan.LogFile.{LogFile}
 use Rattle.agent_plans.specs.declared.plan.Scope.TheVariants.{Whole}
 use Rattle.agent_plans.specs.declared.plan.ConfirmedBy.{ConfirmedBy}
 use Rattle.agent_plans.specs.declared.plan.ConfirmedBy.TheVariants.{Nothing}
@@ -8,6 +9,7 @@ pub use Rattle.agent_plans.specs.declared.plan.DataShown.{DataShown}
 use Rattle.agent_plans.specs.declared.plan.DataShown.TheVariants.{Size, Bytes, Meaning}
 pub use Rattle.cells.specs.declared.writer.Form.{Form}
 use Rattle.cells.specs.declared.writer.Form.TheVariants as forms
+pub use Rattle.agent_plans.specs.declared.plan.ComparisonOptions.{ComparisonOptions}
 pub use Rattle.agent_plans.specs.declared.plan.ComparisonKind.{ComparisonKind}
 use Rattle.agent_plans.specs.declared.plan.ComparisonKind.TheVariants as kinds
 pub use Rattle.agent_plans.specs.declared.plan.Measurement.{Measurement}
@@ -20,32 +22,48 @@ use Rattle.agent_plans.specs.declared.plan.Query.TheVariants as queries
 pub use Rattle.agent_plans.specs.declared.plan.Task.{Task}
 use Rattle.agent_plans.specs.declared.plan.Task.TheVariants as tasks
 
+-- The log of this name, which is replayed as it stands.
+abbrev pub plain_log : String Global → LogFile
+plain_log name = record { name = name; hcrtm = false }
+
+-- The verdict on a log and a whole list, and nothing more.
+abbrev pub whole_verdict : LogFile → String Global → String Global → ComparisonOptions
+whole_verdict log list expected =
+    record {
+      kind = kinds.Verdict log Whole None None;
+      list = list;
+      expected = expected;
+      required = None;
+      known = None;
+      old_kernel = false;
+      explained = false;
+    }
+
 -- The task that a plan requests, and the form in which its result is shown.
 abbrev pub task_of : Plan → Task × Form
 task_of plans.Registers = (tasks.Registers, forms.Text)
 task_of (plans.Measure alg template workers limit print log files) = (
   tasks.Measure
-      (record { alg = alg; template = template; workers = workers; limit = limit; print = print; log = log; files = files; names = None }),
+      (record { alg = alg; template = template; workers = workers; limit = limit; print = print; log = plain_log log; files = files; names = None }),
   forms.Text,
 )
-task_of (plans.Verify log list expected) =
-    (tasks.Answer (queries.Comparison (record { kind = kinds.Verdict log Whole None None; list = list; expected = expected; required = None; known = None; explained = false })), forms.Text)
+task_of (plans.Verify log list expected) = (tasks.Answer (queries.Comparison (whole_verdict (plain_log log) list expected)), forms.Text)
 task_of (plans.Show list) = (tasks.Entries list, forms.Text)
 task_of (plans.Help text) = (tasks.Help text, forms.Text)
 task_of (plans.Task task form) = (task, form)
 
 -- ---- one plan for each
 
--- The verdict on a whole list, and nothing more.
-abbrev pub is_plain_verdict : ComparisonKind → Option (String Global) → Option (Vec (String Global)) → Bool → Bool
-is_plain_verdict (kinds.Verdict log Whole None None) None None false = true
-is_plain_verdict kind required known explained = false
+-- The verdict on a log that is replayed as it stands and on a whole list, and nothing more.
+abbrev pub is_plain_verdict : ComparisonKind → Option (String Global) → Option (Vec (String Global)) → Bool → Bool → Bool
+is_plain_verdict (kinds.Verdict log Whole None None) None None false false = not log.hcrtm
+is_plain_verdict kind required known old_kernel explained = false
 
 -- Some other plan than `Task` requests this, as text.
 abbrev pub has_plan : Task → Bool
 has_plan tasks.Registers = true
-has_plan (tasks.Answer (queries.Comparison judge)) = is_plain_verdict judge.kind judge.required judge.known judge.explained
-has_plan (tasks.Measure request) = not (is_some request.names)
+has_plan (tasks.Answer (queries.Comparison judge)) = is_plain_verdict judge.kind judge.required judge.known judge.old_kernel judge.explained
+has_plan (tasks.Measure request) = not (is_some request.names) && not request.log.hcrtm
 has_plan (tasks.Entries list) = true
 has_plan (tasks.Help text) = true
 has_plan task = false
@@ -88,10 +106,12 @@ abbrev pub NamesKnown : Query → Type 0
 NamesKnown (queries.Comparison judge) = TakesKnown judge.kind judge.required judge.known
 NamesKnown question = Unit {0}
 
+-- What is to be done can be done, and shown in this form: there is no JSON of a file that is converted.
 abbrev pub IsWithin : Form → Task → Type 0
 IsWithin form (tasks.Answer question) = NamesKnown question
 IsWithin form (tasks.Measure request) = IsWithinLimits form request
 IsWithin form (tasks.Events log shown confirmed_by) = HasEventsForm form shown confirmed_by
+IsWithin forms.Json (tasks.Convert input conversion) = ⊥
 IsWithin form task = Unit {0}
 
 -- What the plan requests is within its ranges.

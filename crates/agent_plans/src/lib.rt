@@ -5,6 +5,7 @@ mod plan;
 
 pub use cells::Form;
 pub use plan::{
-    ArgumentsFault, AttestOptions, ComparisonKind, ComparisonOptions, ConfirmedBy, DataShown,
-    Measurement, NameEnd, Names, Plan, Print, Query, Quoting, Scope, SigningOptions, Task,
+    ArgumentsFault, AttestOptions, ComparisonKind, ComparisonOptions, ConfirmedBy, Conversion,
+    DataShown, LogFile, Measurement, NameEnd, Names, Plan, Print, Query, Quoting, Scope,
+    SigningOptions, Task,
 };

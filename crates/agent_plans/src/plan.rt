@@ -2,7 +2,7 @@
 
 ghost use Rattle.std.specs.Prelude.{◌≡◌};
 ghost use Rattle.cells.specs.declared.writer.Form.TheVariants.{Text};
-ghost use Rattle.agent_plans.specs.Plans.{IsOneOf, task_of};
+ghost use Rattle.agent_plans.specs.Plans.{IsOneOf, plain_log, task_of, whole_verdict};
 ghost use Rattle.agent_plans.specs.declared.plan.Query.TheVariants as queries;
 ghost use Rattle.agent_plans.specs.declared.plan.Task.TheVariants as tasks;
 ghost use Rattle.agent_plans.specs.declared.plan.ArgumentsFault.TheVariants.{Memory};
@@ -45,6 +45,34 @@ pub enum DataShown {
     Meaning,
 }
 
+/// A firmware event log, and whether it tells where the machine started.
+#[derive(Drop)]
+pub struct LogFile {
+    /// The name of the log, binary.
+    pub name: String,
+    /// Whether an event of type EV_EFI_HCRTM_EVENT in PCR 0 tells that PCR 0 began at 4, if no event tells a locality (TPM 2.0 Library, part 1,
+    /// 34.3).
+    pub hcrtm: bool,
+}
+
+impl LogFile {
+    /// The log of this name, which is replayed as it stands.
+    pub fn plain(name: String) -> LogFile
+        ensures { result ≡ plain_log name }
+    {
+        LogFile { name, hcrtm: false }
+    }
+}
+
+/// What a file is converted from, into the form that the other commands read.
+#[derive(Clone, Copy, PartialEq, Eq)]
+pub enum Conversion {
+    /// A measurement list as text, as the kernel shows it, into its binary form.
+    List,
+    /// A firmware event log in the SHA-1 form, or with padding behind its last event, into a crypto-agile log without padding.
+    Log,
+}
+
 /// Which part of a list a verdict is on.
 #[derive(Clone, Copy, PartialEq, Eq)]
 pub enum Scope {
@@ -59,8 +87,8 @@ pub enum Scope {
 pub enum ComparisonKind {
     /// A log, a list and expected registers.
     Verdict {
-        /// The name of the firmware event log, binary.
-        log: String,
+        /// The firmware event log.
+        log: LogFile,
         /// Which part of the list the verdict is on.
         scope: Scope,
         /// The name of the checkpoint to go on from, if there is one.
@@ -70,8 +98,8 @@ pub enum ComparisonKind {
     },
     /// Where the expected registers first have their values, in a log and a list.
     Positions {
-        /// The name of the firmware event log, binary.
-        log: String,
+        /// The firmware event log.
+        log: LogFile,
     },
     /// A list alone and expected registers.
     ListVerdict,
@@ -90,6 +118,8 @@ pub struct ComparisonOptions {
     pub required: Option<String>,
     /// The names of the texts of known files, if there are some: only for a verdict, and only where registers are required.
     pub known: Option<Vec<String>>,
+    /// Whether the boot aggregate of a kernel before 5.8 is taken: only for a verdict on a log, and only where registers are required.
+    pub old_kernel: bool,
     /// Whether standard error says what to do next even if it is no terminal.
     pub explained: bool,
 }
@@ -123,6 +153,8 @@ pub struct Quoting {
     pub required: String,
     /// Whether a register may be required in the SHA-1 bank alone.
     pub takes_sha1: bool,
+    /// Whether the boot aggregate of a kernel before 5.8 is taken.
+    pub old_kernel: bool,
     /// What tells that the message is signed by the right key.
     pub signing: SigningOptions,
 }
@@ -130,8 +162,8 @@ pub struct Quoting {
 /// What is asked of a log and a list where the TPM has quoted registers.
 #[derive(Drop)]
 pub struct AttestOptions {
-    /// The name of the firmware event log, binary.
-    pub log: String,
+    /// The firmware event log.
+    pub log: LogFile,
     /// The list and the quote.
     pub quoting: Quoting,
     /// The name of the text of expected registers, which nobody has signed, if there is one.
@@ -181,8 +213,8 @@ pub struct Measurement {
     pub limit: u32,
     /// What to print.
     pub print: Print,
-    /// The name of the firmware event log, binary.
-    pub log: String,
+    /// The firmware event log.
+    pub log: LogFile,
     /// The names of the files that are named by arguments, fewer than 2^32.
     pub files: Vec<String>,
     /// The text that names further files, if there is one.
@@ -194,8 +226,8 @@ pub struct Measurement {
 pub enum Query {
     /// The registers after a firmware event log.
     LogRegisters {
-        /// The name of the log, binary.
-        log: String,
+        /// The log.
+        log: LogFile,
     },
     /// The registers that a list alone makes.
     ListRegisters {
@@ -235,8 +267,8 @@ pub enum Task {
     Measure(Measurement),
     /// Show the events of a firmware event log.
     Events {
-        /// The name of the firmware event log, binary.
-        log: String,
+        /// The firmware event log.
+        log: LogFile,
         /// What to show of their data. In JSON all of it is shown, with what it says: then this is not `Meaning`.
         data: DataShown,
         /// What tells which of it is confirmed: nothing where what the data says is not shown.
@@ -244,12 +276,19 @@ pub enum Task {
     },
     /// Answer what the machine booted that left a firmware event log.
     Boot {
-        /// The name of the firmware event log, binary.
-        log: String,
+        /// The firmware event log.
+        log: LogFile,
         /// What tells which of it is confirmed.
         confirmed_by: ConfirmedBy,
-        /// The name of the log of an earlier boot, with which this one is compared, if there is one.
+        /// The name of the log of an earlier boot, with which this one is compared, if there is one. It is replayed as the other one.
         before: Option<String>,
+    },
+    /// Give a file in the form that the other commands read.
+    Convert {
+        /// The name of the file.
+        input: String,
+        /// From which form it is.
+        conversion: Conversion,
     },
     /// Show the entries of a list.
     Entries {
@@ -326,7 +365,7 @@ impl Plan {
                     workers,
                     limit,
                     print,
-                    log,
+                    log: LogFile::plain(log),
                     files,
                     names: None,
                 }),
@@ -338,7 +377,7 @@ impl Plan {
                 expected,
             } => {
                 let kind = ComparisonKind::Verdict {
-                    log,
+                    log: LogFile::plain(log),
                     scope: Scope::Whole,
                     resume: None,
                     save: None,
@@ -349,6 +388,7 @@ impl Plan {
                     expected,
                     required: None,
                     known: None,
+                    old_kernel: false,
                     explained: false,
                 };
                 (Task::Answer(Query::Comparison(judge)), Form::Text)
@@ -366,29 +406,7 @@ impl Plan {
     {
         match request {
             (Task::Registers, Form::Text) => Plan::Registers,
-            (
-                Task::Measure(
-                    Measurement {
-                        alg,
-                        template,
-                        workers,
-                        limit,
-                        print,
-                        log,
-                        files,
-                        names: None,
-                    },
-                ),
-                Form::Text,
-            ) => Plan::Measure {
-                alg,
-                template,
-                workers,
-                limit,
-                print,
-                log,
-                files,
-            },
+            (Task::Measure(request), Form::Text) => measurement_plan(request),
             (Task::Answer(Query::Comparison(judge)), Form::Text) => comparison_plan(judge),
             (Task::Entries { list }, Form::Text) => Plan::Show { list },
             (Task::Help(text), Form::Text) => Plan::Help(text),
@@ -397,7 +415,83 @@ impl Plan {
     }
 }
 
-// The plan of this question, shown as text: `Verify`, if it is the verdict on a whole list, and nothing more.
+// The plan of this measurement, shown as text: `Measure`, if arguments alone name its files, and its log is replayed as it stands.
+fn measurement_plan(request: Measurement) -> Plan
+    ensures task { task_of result ≡ (tasks.Measure request, Text) }
+    ensures one { IsOneOf result }
+{
+    let Measurement {
+        alg,
+        template,
+        workers,
+        limit,
+        print,
+        log,
+        files,
+        names,
+    } = request;
+    let LogFile { name, hcrtm } = log;
+    match (names, hcrtm) {
+        (None, false) => Plan::Measure {
+            alg,
+            template,
+            workers,
+            limit,
+            print,
+            log: name,
+            files,
+        },
+        (names, hcrtm) => {
+            let log = LogFile { name, hcrtm };
+            let request = Measurement {
+                alg,
+                template,
+                workers,
+                limit,
+                print,
+                log,
+                files,
+                names,
+            };
+            Plan::Task(Task::Measure(request), Form::Text)
+        }
+    }
+}
+
+// The plan of the verdict on a whole list, and nothing more, shown as text: `Verify`, if its log is replayed as it stands.
+fn verdict_plan(log: LogFile, list: String, expected: String) -> Plan
+    ensures task { task_of result ≡ (tasks.Answer (queries.Comparison (whole_verdict log list expected)), Text) }
+    ensures one { IsOneOf result }
+{
+    let LogFile { name, hcrtm } = log;
+    if hcrtm {
+        let log = LogFile { name, hcrtm };
+        let kind = ComparisonKind::Verdict {
+            log,
+            scope: Scope::Whole,
+            resume: None,
+            save: None,
+        };
+        let judge = ComparisonOptions {
+            kind,
+            list,
+            expected,
+            required: None,
+            known: None,
+            old_kernel: false,
+            explained: false,
+        };
+        Plan::Task(Task::Answer(Query::Comparison(judge)), Form::Text)
+    } else {
+        Plan::Verify {
+            log: name,
+            list,
+            expected,
+        }
+    }
+}
+
+// The plan of this question, shown as text: that of the verdict on a whole list, and nothing more, if it is this one.
 fn comparison_plan(judge: ComparisonOptions) -> Plan
     ensures task { task_of result ≡ (tasks.Answer (queries.Comparison judge), Text) }
     ensures one { IsOneOf result }
@@ -408,9 +502,10 @@ fn comparison_plan(judge: ComparisonOptions) -> Plan
         expected,
         required,
         known,
+        old_kernel,
         explained,
     } = judge;
-    match (kind, required, known, explained) {
+    match (kind, required, known, old_kernel, explained) {
         (
             ComparisonKind::Verdict {
                 log,
@@ -421,18 +516,16 @@ fn comparison_plan(judge: ComparisonOptions) -> Plan
             None,
             None,
             false,
-        ) => Plan::Verify {
-            log,
-            list,
-            expected,
-        },
-        (kind, required, known, explained) => {
+            false,
+        ) => verdict_plan(log, list, expected),
+        (kind, required, known, old_kernel, explained) => {
             let judge = ComparisonOptions {
                 kind,
                 list,
                 expected,
                 required,
                 known,
+                old_kernel,
                 explained,
             };
             Plan::Task(Task::Answer(Query::Comparison(judge)), Form::Text)

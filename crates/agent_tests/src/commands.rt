@@ -3,12 +3,12 @@
 use test_kit::lists::{MEASUREMENT, MEASUREMENT_LINE};
 use test_kit::logs::HEADER;
 use test_kit::samples::{
-    EVENT_LINES, EXPECTED, LIST, LOG, LOG_LINE, MEASUREMENT_REGISTERS, PLACES, PRINTED,
-    PRINTED_LINE, REPORT,
+    EVENT_LINES, EXPECTED, HCRTM_LINE, HCRTM_LOG, LIST, LOG, LOG_LINE, MEASUREMENT_REGISTERS,
+    PLACES, PRINTED, PRINTED_LINE, REPORT,
 };
 
 /// The files, by their names; `-` is standard input, and has `log` in hexadecimal.
-pub static FILES: [(&str, &[u8]); 15] = [
+pub static FILES: [(&str, &[u8]); 17] = [
     (
         "-",
         b"00000000 03000000 0000000000000000000000000000000000000000 21000000
@@ -33,6 +33,8 @@ pub static FILES: [(&str, &[u8]); 15] = [
     ("/bin/sh", b"abc"),
     ("names", b"/bin/sh\nentry\nprinted\n"),
     ("shell", b"/bin/sh\n"),
+    ("started", HCRTM_LOG),
+    ("line", MEASUREMENT_LINE),
 ];
 
 /// Words, and the status and the output that they get.
@@ -64,15 +66,15 @@ secure_boot unknown
 firmware_version unknown
 image 1 sha256 0000000000000000000000000000000000000000000000000000000000000000 claimed {\"separator\":0}
 command unknown 8
-command unknown 12
+command unknown 12 (kernel-config)
 ima_policy unknown
 boot_variable unknown
-register 4 alike all
+register 4 (boot-loader-code) alike all
 ";
 
 /// The event of the log, whose digest is no hash of its data.
 const EXPLAINED_LINES: &[u8] =
-    b"algorithms sha256:32\n1 4 EV_SEPARATOR claimed\n  {\"separator\":0}\n";
+    b"algorithms sha256:32\n1 4 (boot-loader-code) EV_SEPARATOR claimed\n  {\"separator\":0}\n";
 
 /// A measurement, with two workers.
 pub const MEASURE: Command = Command {
@@ -82,7 +84,7 @@ pub const MEASURE: Command = Command {
 };
 
 /// Every command.
-pub static COMMANDS: [Command; 18] = [
+pub static COMMANDS: [Command; 21] = [
     Command {
         arguments: &[],
         status: 0,
@@ -214,10 +216,25 @@ not located
         status: 0,
         output: SHELL_LINE,
     },
+    Command {
+        arguments: &["registers", "--hcrtm", "started"],
+        status: 0,
+        output: HCRTM_LINE,
+    },
+    Command {
+        arguments: &["list", "line"],
+        status: 0,
+        output: MEASUREMENT,
+    },
+    Command {
+        arguments: &["log", "log"],
+        status: 0,
+        output: LOG,
+    },
 ];
 
 /// Commands that are refused, or fail.
-pub static FAULTS: [Command; 4] = [
+pub static FAULTS: [Command; 6] = [
     Command {
         arguments: &["registers", "entry"],
         status: 2,
@@ -245,5 +262,15 @@ pub static FAULTS: [Command; 4] = [
         arguments: &["measure", "--limit=1", "header", "/bin/sh"],
         status: 2,
         output: b"refused: job 0 book fault 7\n",
+    },
+    Command {
+        arguments: &["list", "entry"],
+        status: 2,
+        output: b"refused: text list fault 1 at line 1\n",
+    },
+    Command {
+        arguments: &["log", "entry"],
+        status: 2,
+        output: b"refused: log form fault 13\n",
     },
 ];

@@ -16,7 +16,10 @@ use test_kit::sinks::PieceSink;
 
 /// Whether the command reads the file of this name; without words it reads standard input.
 fn reads_file(command: &Command, name: &str) -> bool {
-    command.arguments.contains(&name) || (command.arguments.is_empty() && name == "-")
+    match command.arguments {
+        [] => name == "-",
+        [_command, inputs @ ..] => inputs.contains(&name),
+    }
 }
 
 /// The files, of which this one gives one byte at a time and fails after so many reads.
@@ -110,7 +113,7 @@ fn each_write_of_an_output_fails(rt: HostRuntime) -> Result<(), Fail> {
 #[test]
 fn exit_codes(rt: HostRuntime) -> Result<(), Fail> {
     let opened = [
-        1, 1, 1, 2, 3, 2, 1, 2, 1, 1, 3, 3, 3, 5, 3, 3, 1, 2, 1, 1, 3, 1,
+        1, 1, 1, 2, 3, 2, 1, 2, 1, 1, 3, 3, 3, 5, 3, 3, 1, 2, 1, 1, 1, 1, 1, 3, 1, 1, 1,
     ];
     for (command, opened) in COMMANDS.iter().chain(&FAULTS).zip(opened) {
         let arguments = arguments_of(rt.alloc(), command.arguments)?;
@@ -146,6 +149,8 @@ impl<R: FileSystem + Sync> FileProgress for SecondLook<'_, R> {
 
 impl<R: FileSystem + Sync> Progress for SecondLook<'_, R> {
     fn waits(&self) {}
+
+    fn cuts(&self, _bytes: usize) {}
 
     fn explain(&self, alloc: Global, failure: Failure<'_>) {
         if let Ok(text) = hint_on_failure(self.runtime, alloc, failure) {

@@ -36,6 +36,8 @@ impl FileProgress for Notes {
 impl Progress for Notes {
     fn waits(&self) {}
 
+    fn cuts(&self, _bytes: usize) {}
+
     fn explain(&self, _alloc: Global, _failure: Failure<'_>) {}
 }
 

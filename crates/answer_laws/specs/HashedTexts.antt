@@ -5,7 +5,7 @@ use Rattle.pcr_banks.specs.declared.alg.Alg.{Alg}
 use Rattle.pcr_banks.specs.Names.{extended_by_all, hash_of, reset_value}
 use Rattle.binding_laws.specs.BankBinding.{ExtendsBreakHash}
 use Rattle.boot_log.specs.Names.{LogEvent, digests_for, firmware_value, is_extended_into, startup_locality}
-use Rattle.event_data.specs.Names.{IsWideText}
+use Rattle.event_data.specs.Names.{IsWideText, hashed_text}
 use Rattle.measured_data.specs.declared.confirmed.Pcr.{Pcr}
 use Rattle.boot_answers.specs.Commands.{CommandSaid, grub, told_text, wide}
 
@@ -25,10 +25,10 @@ abbrev pub HasExtended : Alg → ℕ → ℕ → List (List ℕ) → List LogEve
 HasExtended alg register locality digests events =
     extended_by_all alg (reset_value alg register locality) digests ≡ firmware_value events alg register
 
--- The bytes are the text as a boot loader hashes it: of a command of GRUB the text alone; in units of two bytes all of it, with the NUL unit
--- at its end.
+-- The bytes are the text as a boot loader hashes it: of a command of GRUB the text, in RHEL 8's mostly with its NUL; in units of two bytes
+-- all of it, with the NUL unit at its end.
 abbrev pub IsHashedText : CommandSaid → List ℕ → Type 0
-IsHashedText (grub command) bytes = bytes ≡ command.text
+IsHashedText (grub command) bytes = bytes ≡ hashed_text command
 IsHashedText (wide text) bytes = IsWideText bytes text
 
 -- One of the digests is the hash of the text.

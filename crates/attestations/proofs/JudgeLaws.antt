@@ -18,12 +18,14 @@ use Rattle.boot_log.specs.declared.header.DeclaredAlgorithm.{DeclaredAlgorithm}
 use Rattle.boot_log.specs.Names.{IsFirmware, IsLog, LogEvent, algs_in}
 use Rattle.ima_list.specs.Names.{AreGenuine, IsReading, IsReplayed, ListEntry, digests_of}
 use Rattle.boot_verdict.specs.declared.report.Aggregate.{Aggregate}
-use Rattle.boot_verdict.specs.declared.report.Aggregate.TheVariants.{Good, Wrong, NoBank, Missing}
+use Rattle.boot_verdict.specs.declared.report.Aggregate.TheVariants.{Good, Wrong, NoBank, Missing, Old}
 use Rattle.boot_verdict.specs.declared.verifier.VerifyFault.{VerifyFault}
 use Rattle.boot_verdict.specs.declared.verifier.VerifyFault.TheVariants as verdicts
-use Rattle.boot_verdict.specs.Names.{IsVerifyFault, aggregate_of, first_extending, first_stray, is_good, pcr_after_log_and_list, recorded_aggregate}
+use Rattle.boot_verdict.specs.Names.{IsVerifyFault, aggregate_of, aggregate_state, aggregate_under, booted_aggregate, first_extending, first_stray, is_good, is_old, or_old, pcr_after_log, pcr_after_log_and_list, recorded_aggregate, taken_by, told_aggregate}
 use Rattle.tpm_quotes.specs.Spelling.{BankSelection, IsQuote, TpmQuote, all_registers, selects}
 use Rattle.tpm_quotes.specs.Quoting.{confirms}
+use Rattle.attestations.specs.Kept.{HaveSame}
+use Rattle.attestations.proofs.KeptLaws.{confirms_same}
 use Rattle.attestations.specs.declared.attested.Cause.TheVariants.{BadAggregate, Differs}
 use Rattle.attestations.specs.declared.policy.PolicyFault.{PolicyFault}
 use Rattle.attestations.specs.declared.policy.PolicyFault.TheVariants.{ShortNonce, NotRequired, OnlySha1}
@@ -131,26 +133,44 @@ covers required selections e alg register lt named =
 
 -- ---- the aggregate
 
-good : (aggregate : Aggregate) → is_good aggregate ≡ true → aggregate ≡ Good
-good Good e = refl
-good Wrong e = absurd cc
-good NoBank e = absurd cc
-good Missing e = absurd cc
+-- A good state is an older kernel's only if that is taken.
+newly : (old_kernel booted_old : Bool) (state : Aggregate) → (state ≡ Old → ⊥) → is_good (or_old old_kernel booted_old state) ≡ true → old_kernel ≡ false
+    → or_old old_kernel booted_old state ≡ Good
+newly false booted_old Good other e plain = refl
+newly false booted_old Wrong other e plain = absurd cc
+newly false booted_old NoBank other e plain = absurd cc
+newly false booted_old Missing other e plain = absurd cc
+newly false booted_old Old other e plain = absurd (other refl)
+newly true booted_old state other e plain = absurd cc
+
+-- By the plain rule none is an older kernel's.
+never_old : (algs : AlgSet) (events : List LogEvent) (recorded : Option (Alg × List ℕ)) → aggregate_of algs events recorded ≡ Old → ⊥
+never_old algs events None e = absurd cc
+never_old algs events (Some recorded) e = by (booted_aggregate algs events recorded.0) e
+  where
+    by_state : (same : Bool) → cond same Good Wrong ≡ Old → ⊥
+    by_state true e = absurd cc
+    by_state false e = absurd cc
+
+    by : (value : Option (List ℕ)) → aggregate_state recorded.1 value ≡ Old → ⊥
+    by None e = absurd cc
+    by (Some value) e = by_state (bytes_eq recorded.1 value) e
 
 -- ---- the judgement
 
 pub attested_by : (log list message : List ℕ) (terms : Terms) (table : List DeclaredAlgorithm) (events : List LogEvent) (entries : List ListEntry)
     (quote : TpmQuote) (known : Attestation) → policy_fault terms ≡ None → IsQuote message quote → quote_refusal quote terms ≡ None
-    → IsLog log table events → IsReading list (Ok entries) → AreGenuine entries → cause_against (algs_in table) events entries quote ≡ None
-    → known ≡ attestation_on events entries quote → IsAttested log list message terms known
+    → IsLog log table events → IsReading list (Ok entries) → AreGenuine entries → cause_against terms.rule (algs_in table) events entries quote ≡ None
+    → known ≡ attestation_on terms.rule (algs_in table) events entries quote → IsAttested log list message terms known
 attested_by log list message terms table events entries quote known sound message_is taken log_is list_is genuine none known_is =
     let nonce = guard_none (bytes_eq quote.nonce terms.nonce) OtherNonce _ taken in
     let chosen = map_none _ (first_unselected terms.required quote.selections) nonce.1 in
-    let extends = or_none (cause_in_extends events entries) (cause_in_registers (algs_in table) events entries quote) none in
+    let extends = or_none (cause_in_extends events entries) (cause_in_registers terms.rule (algs_in table) events entries quote) none in
     let apart = or_none _ _ extends.0 in
     let log_apart = map_none _ (first_extending events) apart.0 in
     let list_apart = map_none _ (first_stray entries) apart.1 in
-    let aggregate = guard_none (is_good (aggregate_of (algs_in table) events (recorded_aggregate entries))) BadAggregate _ extends.1 in
+    let aggregate = guard_none (is_good (aggregate_under terms.rule (algs_in table) events entries)) BadAggregate _ extends.1 in
+    let recorded = taken_by terms.rule (recorded_aggregate entries) (told_aggregate entries) in
     let same = guard_none (confirms quote (pcr_after_log_and_list (algs_in table) events entries)) Differs None aggregate.1 in
     record {
       table = table;
@@ -166,7 +186,9 @@ attested_by log list message terms table events entries quote known sound messag
       covered = covers terms.required quote.selections chosen;
       log_apart = log_is_apart 1 events log_apart;
       list_apart = list_is_apart 0 entries list_apart;
-      aggregate = good (aggregate_of (algs_in table) events (recorded_aggregate entries)) aggregate.0;
+      aggregate = aggregate.0;
+      newly = newly terms.rule.old_kernel (is_old (pcr_after_log (algs_in table) events) recorded) (aggregate_of (algs_in table) events recorded)
+          (never_old (algs_in table) events recorded) aggregate.0;
       confirmed = same.0;
       attestation_is = known_is;
     }
@@ -217,13 +239,13 @@ boot_refused log list verdicts.Memory is other = other refl
 
 -- ---- the registers
 
-pub values_same : (algs : AlgSet) (events : List LogEvent) (entries : List ListEntry) (start banks : Banks) (quote : TpmQuote)
-    → IsFirmware algs events start → IsReplayed start entries banks
+-- Where a list is replayed from banks that have the registers that are asked for.
+pub values_same : (algs : AlgSet) (events : List LogEvent) (entries : List ListEntry) (start before banks : Banks) (quote : TpmQuote)
+    → IsFirmware algs events start → HaveSame quote.selections before start → IsReplayed before entries banks
     → confirms quote (value_at banks) ≡ confirms quote (pcr_after_log_and_list algs events entries)
-values_same algs events entries start banks quote firmware replayed =
-    let at : (alg : Alg) (register : ℕ) → value_at banks alg register ≡ pcr_after_log_and_list algs events entries alg register =
-    λ alg register. replayed.values alg register
+values_same algs events entries start before banks quote firmware same replayed =
+    confirms_same quote (value_at banks) (pcr_after_log_and_list algs events entries)
+    (λ alg register asked.
+    replayed.values alg register
     ∙ ap (λ (v : Option (List ℕ)). option_map (λ value. extended_by_all alg value (digests_of entries alg register)) v)
-    (firmware.values alg register) in
-    let all : value_at banks ≡ pcr_after_log_and_list algs events entries = λ i alg register. at alg register i in
-    ap (confirms quote) all
+    (same alg register asked ∙ firmware.values alg register))

@@ -1,1 +1,2 @@
+pub mod KeptLaws
 pub mod JudgeLaws

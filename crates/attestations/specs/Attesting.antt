@@ -1,6 +1,6 @@
 -- What a judgement on bytes tells: a firmware log, a measurement list, and the message of a quote, whose signature someone else has
 -- verified.
-use Rattle.std.specs.Prelude.{◌≡◌, ℕ, ◌<◌, true, List, Some, None, Ok}
+use Rattle.std.specs.Prelude.{◌≡◌, ℕ, ◌<◌, true, false, List, Some, None, Ok}
 use Rattle.pcr_banks.specs.declared.alg.Alg.{Alg}
 use Rattle.pcr_banks.specs.Names.{register_count}
 use Rattle.pcr_values.specs.Names.{names}
@@ -10,7 +10,7 @@ use Rattle.ima_list.specs.Names.{AreGenuine, IsReading, ListEntry}
 use Rattle.boot_verdict.specs.declared.report.Aggregate.TheVariants.{Good}
 use Rattle.boot_verdict.specs.declared.verifier.VerifyFault.{VerifyFault}
 use Rattle.boot_verdict.specs.declared.verifier.VerifyFault.TheVariants as verdicts
-use Rattle.boot_verdict.specs.Names.{IsListApart, IsLogApart, IsVerifyFault, aggregate_of, pcr_after_log_and_list, recorded_aggregate}
+use Rattle.boot_verdict.specs.Names.{IsListApart, IsLogApart, IsVerifyFault, aggregate_under, is_good, pcr_after_log_and_list}
 use Rattle.tpm_quotes.specs.Spelling.{IsQuote, TpmQuote, selects}
 use Rattle.tpm_quotes.specs.Reading.{quote_fault}
 use Rattle.tpm_quotes.specs.Quoting.{confirms}
@@ -23,8 +23,8 @@ use Rattle.attestations.specs.Judging.{Attestation, attestation_on, cause_agains
 use Rattle.attestations.specs.Policies.{AreSound, Terms, policy_fault}
 
 -- The bytes are a log, a list of genuine entries and a quote with the nonce, which selects each required register; only the list extends the
--- list's register, and it extends no other; its first entry records the boot aggregate of the log; and the quote is of the values to which
--- log and list replay.
+-- list's register, and it extends no other; its first entry records the boot aggregate of the log, as the terms' rule takes it; and the quote is
+-- of the values to which log and list replay.
 pub record IsAttested (log list message : List ℕ) (terms : Terms) (attestation : Attestation) : Type 0 where
   pub table : List DeclaredAlgorithm
   pub events : List LogEvent
@@ -40,9 +40,10 @@ pub record IsAttested (log list message : List ℕ) (terms : Terms) (attestation
       → selects quote.selections alg register ≡ true
   pub log_apart : IsLogApart events
   pub list_apart : IsListApart entries
-  pub aggregate : aggregate_of (algs_in table) events (recorded_aggregate entries) ≡ Good
+  pub aggregate : is_good (aggregate_under terms.rule (algs_in table) events entries) ≡ true
+  pub newly : terms.rule.old_kernel ≡ false → aggregate_under terms.rule (algs_in table) events entries ≡ Good
   pub confirmed : confirms quote (pcr_after_log_and_list (algs_in table) events entries) ≡ true
-  pub attestation_is : attestation ≡ attestation_on events entries quote
+  pub attestation_is : attestation ≡ attestation_on terms.rule (algs_in table) events entries quote
 
 -- ---- why there is no attestation
 
@@ -77,7 +78,7 @@ pub record IsAgainst (log list message : List ℕ) (terms : Terms) (cause : Caus
   pub log_is : IsLog log table events
   pub list_is : IsReading list (Ok entries)
   pub genuine : AreGenuine entries
-  pub cause_is : cause_against (algs_in table) events entries asked.quote ≡ Some cause
+  pub cause_is : cause_against terms.rule (algs_in table) events entries asked.quote ≡ Some cause
 
 -- The first reason: the policy is refused; else the quote is, since the message is none or not the one that is asked for; else log or list
 -- are refused; else something is against them.

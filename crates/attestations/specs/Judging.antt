@@ -4,7 +4,9 @@ use Rattle.std.specs.Option.{option_or}
 use Rattle.pcr_banks.specs.declared.sets.AlgSet.{AlgSet}
 use Rattle.boot_log.specs.Names.{LogEvent, startup_locality}
 use Rattle.ima_list.specs.Names.{ListEntry}
-use Rattle.boot_verdict.specs.Names.{aggregate_of, first_extending, first_stray, is_good, pcr_after_log_and_list, recorded_aggregate}
+use Rattle.boot_verdict.specs.declared.aggregate_rule.AggregateRule.{AggregateRule}
+use Rattle.boot_verdict.specs.declared.report.Aggregate.{Aggregate}
+use Rattle.boot_verdict.specs.Names.{aggregate_under, first_extending, first_stray, is_good, pcr_after_log_and_list}
 use Rattle.tpm_quotes.specs.Spelling.{TpmQuote, quote_of}
 use Rattle.tpm_quotes.specs.Quoting.{confirms}
 use Rattle.tpm_quotes.specs.Faults.{quote_fault_number}
@@ -20,13 +22,15 @@ pub record Attestation : Type 0 where
   pub events : ℕ
   pub locality : ℕ
   pub entries : ℕ
+  pub aggregate : Aggregate
   pub quote : TpmQuote
 
-abbrev pub attestation_on : List LogEvent → List ListEntry → TpmQuote → Attestation
-attestation_on events entries quote = record {
+abbrev pub attestation_on : AggregateRule → AlgSet → List LogEvent → List ListEntry → TpmQuote → Attestation
+attestation_on rule algs events entries quote = record {
   events = length events;
   locality = startup_locality events;
   entries = length entries;
+  aggregate = aggregate_under rule algs events entries;
   quote = quote;
 }
 
@@ -48,15 +52,16 @@ cause_in_extends events entries =
     option_or (option_map LogExtends (first_extending events)) (option_map (λ stray. ListExtends stray.entry stray.register) (first_stray entries))
 
 -- The first cause in the values to which log and list replay.
-abbrev pub cause_in_registers : AlgSet → List LogEvent → List ListEntry → TpmQuote → Option Cause
-cause_in_registers algs events entries quote =
-    if not (is_good (aggregate_of algs events (recorded_aggregate entries))) then Some BadAggregate
+abbrev pub cause_in_registers : AggregateRule → AlgSet → List LogEvent → List ListEntry → TpmQuote → Option Cause
+cause_in_registers rule algs events entries quote =
+    if not (is_good (aggregate_under rule algs events entries)) then Some BadAggregate
     else if not (confirms quote (pcr_after_log_and_list algs events entries)) then Some Differs
     else None
 
--- The first cause against log and list.
-abbrev pub cause_against : AlgSet → List LogEvent → List ListEntry → TpmQuote → Option Cause
-cause_against algs events entries quote = option_or (cause_in_extends events entries) (cause_in_registers algs events entries quote)
+-- The first cause against log and list, by this rule for the boot aggregate.
+abbrev pub cause_against : AggregateRule → AlgSet → List LogEvent → List ListEntry → TpmQuote → Option Cause
+cause_against rule algs events entries quote =
+    option_or (cause_in_extends events entries) (cause_in_registers rule algs events entries quote)
 
 -- ---- what contracts see of what is known
 
@@ -65,5 +70,6 @@ attestation_of attested = record {
   events = attested.events;
   locality = attested.locality;
   entries = attested.entries;
+  aggregate = attested.aggregate;
   quote = quote_of attested.quote;
 }

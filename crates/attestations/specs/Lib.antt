@@ -1,4 +1,5 @@
 pub mod Policies
+pub mod Kept
 pub mod Judging
 pub mod Attesting
 pub mod Quoted

@@ -11,13 +11,16 @@ use Rattle.tpm_quotes.specs.Spelling.{BankSelection, all_registers, selects}
 use Rattle.attestations.specs.declared.policy.Policy.{Policy}
 use Rattle.attestations.specs.declared.policy.PolicyFault.{PolicyFault}
 use Rattle.attestations.specs.declared.policy.PolicyFault.TheVariants.{ShortNonce, NotRequired, OnlySha1}
+use Rattle.boot_verdict.specs.declared.aggregate_rule.AggregateRule.{AggregateRule}
 use Rattle.boot_verdict.specs.Names.{list_register}
 
--- The nonce that was given out; the registers that must be quoted; and whether a register may be required in the SHA-1 bank alone.
+-- The nonce that was given out; the registers that must be quoted; whether a register may be required in the SHA-1 bank alone; and by which rule
+-- the boot aggregate must be good.
 pub record Terms : Type 0 where
   pub nonce : List ℕ
   pub required : List BankRange
   pub takes_sha1 : Bool
+  pub rule : AggregateRule
 
 -- The fewest bytes of a nonce: 128 bits, so that chance makes none twice.
 abbrev pub least_nonce : ℕ
@@ -68,4 +71,4 @@ first_unselected required selections =
 -- ---- what contracts see of a policy
 
 abbrev pub terms_of : Policy → Terms
-terms_of policy = record { nonce = policy.nonce.now; required = policy.required.now; takes_sha1 = policy.takes_sha1 }
+terms_of policy = record { nonce = policy.nonce.now; required = policy.required.now; takes_sha1 = policy.takes_sha1; rule = policy.rule }

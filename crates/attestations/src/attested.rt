@@ -10,10 +10,15 @@ ghost use Rattle.attestations.specs.declared.attested.AttestFault.TheVariants.{B
 ghost use Rattle.attestations.specs.Policies.{policy_fault, terms_of};
 ghost use Rattle.attestations.specs.Judging.{attestation_of, attestation_on, cause_against, cause_in_extends, cause_in_registers, quote_refusal};
 ghost use Rattle.attestations.specs.Attesting.{IsAttested, IsAttestFault};
+ghost use Rattle.attestations.specs.Kept.{HaveSame};
 
+use crate::kept::banks_for;
 use crate::policy::{Policy, PolicyFault, QuoteRefusal, quote_for};
 use boot_log::{LogFault, LogView};
-use boot_verdict::{Checkpoint, VerifyFault, aggregate_of, first_extending};
+use boot_verdict::{
+    Aggregate, AggregateRule, Checkpoint, VerifyFault, aggregate_with, first_extending,
+};
+use pcr_banks::Banks;
 use thiserror::Error;
 use tpm_quotes::Quote;
 
@@ -53,6 +58,8 @@ pub struct AttestedLog<'a> {
     pub locality: u8,
     /// How many entries the list has.
     pub entries: usize,
+    /// How the list's boot aggregate is that of the log: [`Aggregate::Old`] only if the policy takes that.
+    pub aggregate: Aggregate,
     /// What the quote states.
     pub quote: Quote<'a>,
 }
@@ -115,7 +122,7 @@ pub fn attest<'a>(
     ensures only { (table : List DeclaredAlgorithm) (events : List LogEvent) (entries : List ListEntry) (quote : TpmQuote)
         → policy_fault (terms_of policy.now) ≡ None → IsQuote message.now quote → quote_refusal quote (terms_of policy.now) ≡ None
         → IsLog log.now table events → IsReading list.now (Ok entries) → AreGenuine entries
-        → cause_against (algs_in table) events entries quote ≡ None → IsOk result }
+        → cause_against (terms_of policy.now).rule (algs_in table) events entries quote ≡ None → IsOk result }
     // A fault is the first one.
     ensures fault { IfErr result (IsAttestFault log.now list.now message.now (terms_of policy.now)) }
 {
@@ -124,36 +131,53 @@ pub fn attest<'a>(
     }
     let quote = quote_for(message, policy)?;
     let view = LogView::new(log)?;
-    let known = Checkpoint::of_list(view.registers(), list)?;
-    match cause_against(&view, &known, &quote) {
+    let start = view.registers();
+    let known = Checkpoint::of_list(banks_for(&start, &quote), list)?;
+    match cause_against(&view, &start, &known, &quote, policy.rule) {
         Some(cause) => Err(AttestFault::Against(cause)),
-        None => Ok(confirmed(&view, &known, quote)),
+        None => Ok(confirmed(&view, &start, &known, quote, policy.rule)),
     }
 }
 
 // What the quote confirms.
-fn confirmed<'a>(log: &LogView<'_>, known: &Checkpoint, quote: Quote<'a>) -> AttestedLog<'a>
+fn confirmed<'a>(
+    log: &LogView<'_>,
+    start: &Banks,
+    known: &Checkpoint,
+    quote: Quote<'a>,
+    rule: AggregateRule,
+) -> AttestedLog<'a>
     ensures { (list : List ℕ) (table : List DeclaredAlgorithm) (events : List LogEvent) → IsLog (log_bytes log.now) table events
-        → (is : IsCheckpoint list known.now) → attestation_of result ≡ attestation_on events is.entries (quote_of quote.entry) }
+        → IsFirmware (algs_in table) events start.now → (is : IsCheckpoint list known.now)
+        → attestation_of result ≡ attestation_on rule (algs_in table) events is.entries (quote_of quote.entry) }
 {
     AttestedLog {
         events: log.count(),
         locality: log.locality(),
         entries: known.entries,
+        aggregate: aggregate_with(rule, start, known.recorded, known.told),
         quote,
     }
 }
 
-// The first cause against log and list, if there is one.
-fn cause_against(log: &LogView<'_>, known: &Checkpoint, quote: &Quote<'_>) -> Option<Cause>
+// The first cause against log and list, if there is one. The log leaves the registers `start`; the list is replayed into those that the
+// quote asks for.
+fn cause_against(
+    log: &LogView<'_>,
+    start: &Banks,
+    known: &Checkpoint,
+    quote: &Quote<'_>,
+    rule: AggregateRule,
+) -> Option<Cause>
     ensures { (list : List ℕ) (table : List DeclaredAlgorithm) (events : List LogEvent) → IsLog (log_bytes log.now) table events
-        → IsFirmware (algs_in table) events known.now.before → (is : IsCheckpoint list known.now)
-        → result ≡ cause_against (algs_in table) events is.entries (quote_of quote.now) }
+        → IsFirmware (algs_in table) events start.now → HaveSame (quote_of quote.now).selections known.now.before start.now
+        → (is : IsCheckpoint list known.now)
+        → result ≡ cause_against rule (algs_in table) events is.entries (quote_of quote.now) }
 {
     if let Some(cause) = cause_in_extends(log, known) {
         return Some(cause);
     }
-    cause_in_registers(known, quote)
+    cause_in_registers(start, known, quote, rule)
 }
 
 // The first cause in which registers log and list extend, if there is one.
@@ -172,12 +196,17 @@ fn cause_in_extends(log: &LogView<'_>, known: &Checkpoint) -> Option<Cause>
 }
 
 // The first cause in the values to which log and list replay, if there is one.
-fn cause_in_registers(known: &Checkpoint, quote: &Quote<'_>) -> Option<Cause>
-    ensures { (list : List ℕ) (table : List DeclaredAlgorithm) (events : List LogEvent) → IsFirmware (algs_in table) events known.now.before
-        → (is : IsCheckpoint list known.now)
-        → result ≡ cause_in_registers (algs_in table) events is.entries (quote_of quote.now) }
+fn cause_in_registers(
+    start: &Banks,
+    known: &Checkpoint,
+    quote: &Quote<'_>,
+    rule: AggregateRule,
+) -> Option<Cause>
+    ensures { (list : List ℕ) (table : List DeclaredAlgorithm) (events : List LogEvent) → IsFirmware (algs_in table) events start.now
+        → HaveSame (quote_of quote.now).selections known.now.before start.now → (is : IsCheckpoint list known.now)
+        → result ≡ cause_in_registers rule (algs_in table) events is.entries (quote_of quote.now) }
 {
-    if !aggregate_of(&known.before, known.recorded).is_good() {
+    if !aggregate_with(rule, start, known.recorded, known.told).is_good() {
         return Some(Cause::BadAggregate);
     }
     if !quote.is_of(&known.after) {

@@ -5,12 +5,14 @@
 
 mod attested;
 mod expected;
+mod kept;
 mod policy;
 mod report;
 mod signature;
 
 pub use attested::{AttestFault, AttestedLog, Cause, attest};
 pub use expected::{ExpectedValues, keep_confirmed};
-pub use policy::{LEAST_NONCE, Policy, PolicyFault, QuoteRefusal, quote_for};
+pub use kept::quoted_algs;
+pub use policy::{LEAST_NONCE, Policy, PolicyFault, QuoteRefusal, first_weak, quote_for};
 pub use report::{AttestReport, Quoted, Selected, Whole};
 pub use signature::SignatureState;

@@ -8,7 +8,7 @@ ghost use Rattle.attestations.specs.declared.policy.QuoteRefusal.TheVariants.{Me
 ghost use Rattle.attestations.specs.Judging.{quote_refusal, quote_refusal_number};
 ghost use Rattle.attestations.specs.Attesting.{IsQuoteRefusal};
 
-use boot_verdict::{LIST_REGISTER, Requirement};
+use boot_verdict::{AggregateRule, LIST_REGISTER, Requirement};
 use pcr_banks::{Alg, REGISTERS};
 use thiserror::Error;
 use tpm_quotes::{Quote, QuoteFault, read_quote};
@@ -25,6 +25,8 @@ pub struct Policy<'a> {
     pub required: &'a Requirement,
     /// Whether a register may be required in the SHA-1 bank alone, though collisions of SHA-1 are made in practice.
     pub takes_sha1: bool,
+    /// By which rule the list's boot aggregate must be good.
+    pub rule: AggregateRule,
 }
 
 /// Why a policy is refused: with it a match would say too little. The first of these that holds.
@@ -89,8 +91,8 @@ fn is_named_beside_sha1(required: &Requirement, register: u32) -> bool
         .any(|alg| *alg != Alg::Sha1 && required.names(*alg, register))
 }
 
-// The first register that is required in the SHA-1 bank alone, if there is one.
-fn first_weak(required: &Requirement) -> Option<u32>
+/// The first register that is required in the SHA-1 bank alone, if there is one.
+pub fn first_weak(required: &Requirement) -> Option<u32>
     ensures { result ≡ first_weak required.now }
 {
     (0..REGISTERS).find(|register| required.names(Alg::Sha1, *register)

@@ -5,7 +5,7 @@ ghost use Rattle.std.specs.List.{Contains};
 ghost use Rattle.pcr_banks.specs.declared.alg.Alg.{Alg};
 ghost use Rattle.pcr_banks.specs.Names.{extended_by_all, hash_of, reset_value};
 ghost use Rattle.boot_log.specs.Names.{LogEvent, digests_for, firmware_value, no_action};
-ghost use Rattle.event_data.specs.Names.{CommandData, IsCommand, IsVariable, VariableData};
+ghost use Rattle.event_data.specs.Names.{CommandData, IsCommand, IsVariable, VariableData, hashed_text};
 ghost use Rattle.measured_data.specs.declared.measured.Part.{Part};
 ghost use Rattle.measured_data.specs.declared.confirmed.Pcr.{Pcr};
 ghost use Rattle.measured_data.specs.Confirming.{IsConfirmed};
@@ -60,7 +60,7 @@ pub fn value_tells_no_name()
         → IsVariable payload renamed → renamed.value ≡ measured.bytes
         → IsMeasured alg (record event { payload = payload }) Part.Value }
     ensures command { (alg : Alg) (event : LogEvent) (measured : IsMeasured alg event Part.Command) (other : CommandData) (payload : List ℕ)
-        → IsCommand payload other → other.text ≡ measured.bytes
+        → IsCommand payload other → hashed_text other ≡ measured.bytes
         → IsMeasured alg (record event { payload = payload }) Part.Command }
     ensures wrapped { (alg : Alg) (event : LogEvent) (variable : VariableData) (payload : List ℕ) → event.register ≡ settings_register
         → IsMeasured alg event Part.Whole → IsVariable payload variable → variable.value ≡ event.payload

@@ -1,5 +1,5 @@
--- The texts that boot loaders measure: GRUB's commands in register 8 (GRUB, grub-core/commands/tpm.c), and the kernel's command line that
--- systemd-stub hands over in register 12 (systemd-stub, PCR 12, a text in units of two bytes).
+-- The texts that boot loaders measure: GRUB's commands in register 8 (GRUB, grub-core/commands/tpm.c; RHEL 8's GRUB), and the kernel's
+-- command line that systemd-stub hands over in register 12 (systemd-stub, PCR 12, a text in units of two bytes).
 --
 -- What is told is what was hashed. A GRUB command's kind is claimed: root can pass any command of GRUB off as the kernel's command line. Root
 -- can append texts after those of the boot, and can extend a register that the boot loader left empty. For a text that was hashed root can

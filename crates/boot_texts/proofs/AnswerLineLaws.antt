@@ -21,7 +21,12 @@ use Rattle.event_lines.proofs.ContentLaws.{content_plain}
 use Rattle.event_lines.proofs.CountLaws.{content_counted}
 use Rattle.boot_texts.specs.declared.difference_lines.ComparedBoot.{ComparedBoot}
 use Rattle.boot_texts.specs.AnswerCells.{answered_digest, boot_variable_type, command_cell, digest_cell, image_cell, kind_cell, policy_cell, text_member, unknown_command_cell, variable_cell, version_cell, word_cell}
-use Rattle.boot_texts.specs.Differences.{alike_cell, apart_cell, event_cell}
+use Rattle.boot_texts.specs.Claims.{claim_cell, claim_said_cell}
+use Rattle.boot_texts.specs.Differences.{alike_cell, apart_cell, boot_word, event_cell, place_cell}
+use Rattle.boot_texts.specs.declared.claims.Claim.{Claim}
+use Rattle.boot_texts.specs.declared.claims.Claim.TheVariants as claims
+use Rattle.event_lines.proofs.RegisterNameLaws.{register_plain}
+use Rattle.event_lines.specs.RegisterNames.{register_cell}
 
 content_is_plain : (kind : ℕ) (bytes : List ℕ) → IsBytes bytes → IsPlain (content_json kind (content_in kind bytes)) 6
 content_is_plain kind bytes fits = content_plain kind (content_in kind bytes) (content_counted kind bytes fits)
@@ -92,44 +97,78 @@ pub command_is_one : (register number : ℕ) (text : CommandSaid) → IsCount re
     → IsOneLine (object_of (command_cell register number text).json)
 unfolding beside
 command_is_one register number text place count =
-    line_within 3 (object_of (command_cell register number text).json) (omega arith)
-    ((number, count, refl), ((register, place, refl), (text_is_plain text, kind_plain text)))
+    line_within 3 (object_of (command_cell register number text).json) (omega arith) (
+      (number, count, refl),
+      members_joined 2 (register_cell (codes " ") register).json _ (register_plain 2 (codes " ") register place)
+          (text_is_plain text, kind_plain text),
+    )
 
 pub unknown_command_is_one : (register number : ℕ) → IsCount register → IsCount number
     → IsOneLine (object_of (unknown_command_cell register (Some number)).json)
 unfolding beside
 unknown_command_is_one register number place count =
-    line_within 3 (object_of (unknown_command_cell register (Some number)).json) (omega arith) (tt, ((register, place, refl), ((number, count, refl), tt)))
+    line_within 3 (object_of (unknown_command_cell register (Some number)).json) (omega arith)
+    (tt, members_joined 2 (register_cell (codes " ") register).json _ (register_plain 2 (codes " ") register place) ((number, count, refl), tt))
 
 pub unanswered_is_one : (register : ℕ) → IsCount register → IsOneLine (object_of (unknown_command_cell register None).json)
 unfolding beside
-unanswered_is_one register place = line_within 3 (object_of (unknown_command_cell register None).json) (omega arith) (tt, ((register, place, refl), tt))
+unanswered_is_one register place = line_within 3 (object_of (unknown_command_cell register None).json) (omega arith)
+    (tt, members_joined 2 (register_cell (codes " ") register).json _ (register_plain 2 (codes " ") register place) tt)
 
 -- ---- differences
 
 pub alike_is_one : (register : ℕ) (word : List ℕ) → IsCount register → IsOneLine (object_of (alike_cell register word).json)
 unfolding beside
-alike_is_one register word place = line_within 3 (object_of (alike_cell register word).json) (omega arith) ((register, place, refl), (tt, tt))
+alike_is_one register word place = line_within 3 (object_of (alike_cell register word).json) (omega arith)
+    (members_joined 2 (register_cell (codes "register ") register).json _ (register_plain 2 (codes "register ") register place) (tt, tt))
 
 pub apart_is_one : (register : ℕ) (alg : Alg) (place : ℕ) → IsCount register → IsCount place
     → IsOneLine (object_of (apart_cell register alg place).json)
 unfolding beside
 apart_is_one register alg place counted count =
-    line_within 3 (object_of (apart_cell register alg place).json) (omega arith) ((register, counted, refl), (tt, ((place, count, refl), tt)))
+    line_within 3 (object_of (apart_cell register alg place).json) (omega arith) (members_joined 2 (register_cell (codes "register ") register).json _ (register_plain 2 (codes "register ") register counted)
+    (tt, ((place, count, refl), tt)))
 
 own_plain : (digest : Option (List ℕ)) → ArePlain (if_some digest (hex (codes " ") (codes "digest"))).json 6
 own_plain None = tt
 own_plain (Some bytes) = (tt, tt)
 
+place_plain : (boot : ComparedBoot) (register number : ℕ) → IsCount register → IsCount number
+    → ArePlain (place_cell register (boot_word boot) number).json 6
+unfolding beside
+place_plain boot register number place count =
+    members_joined 6 (register_cell (codes "register ") register).json _ (register_plain 6 (codes "register ") register place)
+    ((number, count, refl), tt)
+
 pub event_is_one : (boot : ComparedBoot) (register : ℕ) (alg : Alg) (number : ℕ) (event : LogEvent) → IsCount register → IsCount number
     → IsBytes event.payload → IsOneLine (object_of (event_cell boot register alg number event).json)
 unfolding beside
 event_is_one boot register alg number event place count fits =
-    line_within 7 (object_of (event_cell boot register alg number event).json) (omega arith) (
-      (register, place, refl),
-      (
-        (number, count, refl),
-        members_joined 6 (if_some (digest_in event.digests alg) (hex (codes " ") (codes "digest"))).json _ (own_plain (digest_in event.digests alg))
-            (content_is_plain event.kind event.payload fits, tt),
-      ),
-    )
+    line_within 7 (object_of (event_cell boot register alg number event).json) (omega arith)
+    (members_joined 6 (place_cell register (boot_word boot) number).json _ (place_plain boot register number place count)
+    (members_joined 6 (if_some (digest_in event.digests alg) (hex (codes " ") (codes "digest"))).json _ (own_plain (digest_in event.digests alg))
+    (content_is_plain event.kind event.payload fits, tt)))
+
+-- ---- claims
+
+stated_plain : (digests : PerBank) (algs : List Alg) → ArePlain (flat_map (λ alg. (if_some (digest_in digests alg) (digest_cell alg)).json) algs) 5
+stated_plain digests [] = tt
+stated_plain digests (alg ∷ algs) =
+    members_joined 5 (if_some (digest_in digests alg) (digest_cell alg)).json _ (digest_plain alg (digest_in digests alg)) (stated_plain digests algs)
+
+said_plain : (event : LogEvent) (claim : Claim) → IsCount event.register → IsBytes event.payload → ArePlain (claim_said_cell event claim).json 6
+unfolding beside each object_at
+said_plain event (claims.SecureBoot state) place fits = (tt, tt)
+said_plain event claims.Version place fits = (content_is_plain event.kind event.payload fits, tt)
+said_plain event claims.Image place fits = (stated_plain event.digests all_algs, (content_is_plain event.kind event.payload fits, tt))
+said_plain event claims.Command place fits =
+    members_joined 6 (register_cell (codes " ") event.register).json _ (register_plain 6 (codes " ") event.register place)
+    (content_is_plain event.kind event.payload fits, tt)
+said_plain event claims.Variable place fits = (content_is_plain event.kind event.payload fits, tt)
+
+pub claim_is_one : (number : ℕ) (event : LogEvent) (claim : Claim) → IsCount number → IsCount event.register → IsBytes event.payload
+    → IsOneLine (object_of (claim_cell number event claim).json)
+unfolding beside object_at
+claim_is_one number event claim count place fits =
+    line_within 8 (object_of (claim_cell number event claim).json) (omega arith)
+    (((number, count, refl), said_plain event claim place fits), tt)

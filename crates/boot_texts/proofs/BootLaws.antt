@@ -1,7 +1,7 @@
 -- Texts that are appended one after another.
 use Rattle.std.proofs.Common.{◌≡◌, ℕ, List, ◌++◌, ap, ◌∙◌, append_assoc}
 
-one_more : (old first second : List ℕ) {mid new : List ℕ} → mid ≡ old ++ first → new ≡ mid ++ second → new ≡ old ++ (first ++ second)
+pub one_more : (old first second : List ℕ) {mid new : List ℕ} → mid ≡ old ++ first → new ≡ mid ++ second → new ≡ old ++ (first ++ second)
 one_more old first second before after =
     after ∙ ap (λ (t : List ℕ). t ++ second) before ∙ append_assoc old first second
 

@@ -24,7 +24,8 @@ use Rattle.measured_data.proofs.MeasuredLaws.{measured_told}
 use Rattle.boot_answers.specs.BootVariables.{IsMeasuredVariable}
 use Rattle.boot_answers.specs.Commands.{CommandSaid, IsCommandText, grub, text_by, wide}
 use Rattle.boot_texts.specs.EachBank.{TellText, TellVariable}
-use Rattle.boot_texts.specs.Telling.{allows_variable, is_boot_variable, is_told_variable}
+use Rattle.boot_texts.specs.Boots.{is_boot_variable}
+use Rattle.boot_texts.specs.Telling.{allows_variable, is_told_variable}
 
 -- What is found, under another name.
 named : {A B : Type 0} (f : A → B) (Is : A → Type 0) (found : Option A) (b : B) → Finds Is found → option_map f found ≡ Some b

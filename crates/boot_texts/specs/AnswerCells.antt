@@ -19,6 +19,7 @@ use Rattle.cells.specs.Cells.{Cell, each, hex, if_some, in_order, nothing, numbe
 use Rattle.cells.specs.Values.{Member, line_of, object_of, shown_member}
 use Rattle.event_lines.specs.ContentJson.{command_word, content_json, event_content_json}
 use Rattle.event_lines.specs.ContentTexts.{wide_member}
+use Rattle.event_lines.specs.RegisterNames.{register_cell}
 use Rattle.event_lines.specs.SteeringTexts.{unsteered, value_cell}
 
 -- An answer in one word.
@@ -84,7 +85,7 @@ kind_cell (wide said) = nothing
 abbrev pub command_cell : ℕ → ℕ → CommandSaid → Cell Member
 command_cell register n said = in_order (
     number (codes "command ") (codes "command") n
-    ∷ number (codes " ") (codes "register") register
+    ∷ register_cell (codes " ") register
     ∷ said_cell said
     ∷ kind_cell said
     ∷ [])
@@ -93,7 +94,7 @@ command_cell register n said = in_order (
 abbrev pub unknown_command_cell : ℕ → Option ℕ → Cell Member
 unknown_command_cell register event = in_order (
     word (codes "command ") (codes "command") (codes "unknown")
-    ∷ number (codes " ") (codes "register") register
+    ∷ register_cell (codes " ") register
     ∷ if_some event (number (codes " ") (codes "event"))
     ∷ text (codes "\n")
     ∷ [])

@@ -1,5 +1,5 @@
 -- The lines of all answers on a boot.
-use Rattle.std.specs.Prelude.{◌≡◌, ℕ, List, ◌++◌, codes, Option, None}
+use Rattle.std.specs.Prelude.{◌≡◌, ℕ, List, [], ◌++◌, codes, Option, None, Some}
 use Rattle.boot_log.specs.Names.{LogEvent}
 use Rattle.event_data.specs.Names.{Content}
 use Rattle.measured_data.specs.declared.confirmed.Pcr.{Pcr}
@@ -12,7 +12,7 @@ use Rattle.boot_answers.specs.Policies.{IsImaPolicy}
 use Rattle.boot_answers.specs.SecureBoot.{IsSecureBoot}
 use Rattle.cells.specs.declared.writer.Form.{Form}
 use Rattle.boot_texts.specs.declared.boot_lines.BootQuestion.{BootQuestion}
-use Rattle.boot_texts.specs.declared.boot_lines.BootQuestion.TheVariants.{Images, Commands, Variables}
+use Rattle.boot_texts.specs.declared.boot_lines.BootQuestion.TheVariants.{Claims, Images, Commands, Variables}
 use Rattle.boot_texts.specs.Answering.{Chosen, is_answered}
 use Rattle.cells.specs.Cells.{rendered}
 use Rattle.boot_texts.specs.AnswerCells.{policy_cell, secure_boot_cell, unknown_command_cell, version_cell, word_cell}
@@ -50,3 +50,16 @@ pub record AreBootLines (form : Form) (matched : List Pcr) (events : List LogEve
   pub are_variables : AreVariableLines form matched events variables
   pub text_is : text ≡ rendered form (secure_boot_cell state) ++ (rendered form (version_cell version)
       ++ (images ++ (commands ++ (more_commands ++ (rendered form (policy_cell policy) ++ variables)))))
+
+-- ---- what nothing confirms
+
+-- A line that all is claimed, and those of what each event claims, in the order of the log.
+abbrev pub AreClaimLines : Form → List LogEvent → List ℕ → Type 0
+AreClaimLines form events text =
+    (claims : List ℕ) × AreEventLines (IsEventLine Claims form []) 1 events claims
+    × (text ≡ rendered form (word_cell (codes "claimed") (codes "all")) ++ claims)
+
+-- The lines of all answers by the registers that match; of all claims, if none were compared.
+abbrev pub AreBootTexts : Form → Option (List Pcr) → List LogEvent → List ℕ → Type 0
+AreBootTexts form None events text = AreClaimLines form events text
+AreBootTexts form (Some matched) events text = AreBootLines form matched events text

@@ -14,6 +14,7 @@ use Rattle.cells.specs.declared.writer.Form.{Form}
 use Rattle.cells.specs.Cells.{Cell, hex, if_some, in_order, number, rendered, text, word}
 use Rattle.cells.specs.Values.{Member}
 use Rattle.event_lines.specs.ContentJson.{event_content_json}
+use Rattle.event_lines.specs.RegisterNames.{register_cell}
 use Rattle.event_lines.specs.SteeringTexts.{value_cell}
 use Rattle.cells.specs.ItemLines.{numbered_lines}
 use Rattle.boot_texts.specs.Answering.{has_events}
@@ -64,12 +65,12 @@ IsDifference matched register events others (Apart alg place common) =
 -- `unknown` or `all`: how far the register was extended alike, in one word.
 abbrev pub alike_cell : ℕ → List ℕ → Cell Member
 alike_cell register said = in_order (
-    number (codes "register ") (codes "register") register ∷ word (codes " alike ") (codes "alike") said ∷ text (codes "\n") ∷ [])
+    register_cell (codes "register ") register ∷ word (codes " alike ") (codes "alike") said ∷ text (codes "\n") ∷ [])
 
 -- After how many events the boots differ, in this bank.
 abbrev pub apart_cell : ℕ → Alg → ℕ → Cell Member
 apart_cell register alg place = in_order (
-    number (codes "register ") (codes "register") register
+    register_cell (codes "register ") register
     ∷ word (codes " ") (codes "bank") (name_of alg)
     ∷ number (codes " alike ") (codes "alike") place
     ∷ text (codes "\n")
@@ -85,7 +86,7 @@ boot_word boots.Before = codes "before"
 -- The register, and the event's number in the log of its boot.
 abbrev pub place_cell : ℕ → List ℕ → ℕ → Cell Member
 place_cell register boot n = in_order (
-    number (codes "register ") (codes "register") register ∷ text (codes " ") ∷ text boot ∷ number (codes " ") boot n ∷ [])
+    register_cell (codes "register ") register ∷ text (codes " ") ∷ text boot ∷ number (codes " ") boot n ∷ [])
 
 -- The register, the event's number in the log of its boot, its digest in the bank where it has one, and what its data claims.
 abbrev pub event_cell : ComparedBoot → ℕ → Alg → ℕ → LogEvent → Cell Member

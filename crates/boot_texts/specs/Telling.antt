@@ -5,9 +5,7 @@ use Rattle.std.specs.Option.{option_map_or}
 use Rattle.pcr_banks.specs.declared.alg.Alg.{Alg}
 use Rattle.pcr_banks.specs.Names.{all_algs}
 use Rattle.boot_log.specs.Names.{LogEvent, is_extended_into}
-use Rattle.event_data.specs.declared.value_reader.ValueForm.{ValueForm}
-use Rattle.event_data.specs.declared.value_reader.ValueForm.TheVariants as forms
-use Rattle.event_data.specs.Names.{VariableData, value_form, variable_in}
+use Rattle.event_data.specs.Names.{variable_in}
 use Rattle.measured_data.specs.declared.measured.Part.TheVariants.{Value, Whole}
 use Rattle.measured_data.specs.declared.confirmed.Pcr.{Pcr}
 use Rattle.measured_data.specs.Confirming.{is_answering}
@@ -17,9 +15,11 @@ use Rattle.boot_answers.specs.Images.{MayBeImage, image_register}
 use Rattle.boot_answers.specs.Separators.{MayBeSeparator}
 use Rattle.cells.specs.declared.writer.Form.{Form}
 use Rattle.boot_texts.specs.declared.boot_lines.BootQuestion.{BootQuestion}
-use Rattle.boot_texts.specs.declared.boot_lines.BootQuestion.TheVariants.{Images, Commands, Variables}
+use Rattle.boot_texts.specs.declared.boot_lines.BootQuestion.TheVariants.{Claims, Images, Commands, Variables}
 use Rattle.cells.specs.Cells.{rendered}
 use Rattle.boot_texts.specs.AnswerCells.{command_cell, image_cell, unknown_command_cell, variable_cell}
+use Rattle.boot_texts.specs.Boots.{is_boot_variable}
+use Rattle.boot_texts.specs.Claims.{IsClaimLine}
 
 -- Whether the events after one are looked at, and the text of the one, are these.
 abbrev pub Are : Bool → List ℕ → Bool × List ℕ → Type 0
@@ -73,16 +73,6 @@ pub record IsSeparatorBy (matched : List Pcr) (event : LogEvent) (alg : Alg) : T
 abbrev pub MayBeSeparatorIn : List Pcr → LogEvent → Type 0
 MayBeSeparatorIn matched event = (alg : Alg) × IsSeparatorBy matched event alg
 
--- The forms of the values of BootOrder and of Boot####.
-abbrev pub is_boot_form : ValueForm → Bool
-is_boot_form forms.Order = true
-is_boot_form forms.LoadOption = true
-is_boot_form form = false
-
--- Whether the variable is claimed to be BootOrder or a Boot####, of EFI_GLOBAL_VARIABLE.
-abbrev pub is_boot_variable : VariableData → Bool
-is_boot_variable variable = is_boot_form (value_form 0 variable)
-
 -- Whether the bank does not answer for settings, or in it the event's data is measured, or the variable's value.
 abbrev pub allows_variable : List Pcr → LogEvent → Alg → Bool
 allows_variable matched event alg = not (is_answering matched alg settings_register) || (is_measured alg event Whole || is_measured alg event Value)
@@ -115,3 +105,4 @@ abbrev pub IsEventLine : BootQuestion → Form → List Pcr → ℕ → LogEvent
 IsEventLine Images form matched number event goes text = IsImageLine form matched number event goes text
 IsEventLine (Commands register) form matched number event goes text = IsCommandLine register form matched number event goes text
 IsEventLine Variables form matched number event goes text = IsVariableLine form matched number event goes text
+IsEventLine Claims form matched number event goes text = IsClaimLine form number event goes text

@@ -6,10 +6,11 @@ ghost use Rattle.boot_log.specs.Names.{IsLog, LogEvent, log_bytes, log_event_of}
 ghost use Rattle.cells.specs.Cells.{ShowsMembers, rendered};
 ghost use Rattle.event_data.specs.Names.{content_of};
 ghost use Rattle.boot_texts.specs.AnswerCells.{secure_boot_cell, state_word, version_cell, word_cell};
-ghost use Rattle.boot_texts.specs.BootLines.{AreBootLines, AreCommandLines, AreImageLines, AreVariableLines};
+ghost use Rattle.boot_texts.specs.BootLines.{AreBootLines, AreBootTexts, AreClaimLines, AreCommandLines, AreImageLines, AreVariableLines};
 ghost use Rattle.boot_texts.specs.Telling.{AreEventLines, IsEventLine};
 
 use crate::answering_banks::is_answered;
+use crate::claims::append_claim;
 use crate::commands::{UnknownCommandLine, append_if_command};
 use crate::images::append_if_image;
 use crate::policies::append_policy;
@@ -42,21 +43,54 @@ use std::alloc::{AllocError, Global};
 /// Where no bank answers for the register, or no event extends it, the line is `image unknown`, `command unknown 8` or
 /// `boot_variable unknown`.
 ///
+/// Where no registers were compared (`None`), the first line is `claimed all`. The others are those of what each event claims, in the order of the
+/// log: of the variable SecureBoot, of a firmware's version, of an image, of a command, of a boot variable. Each begins with `claimed` and the
+/// event's number, as in `claimed 4 secure_boot on`; in JSON the only member is `claimed`.
+///
 /// Fails only if memory runs out; the vector then is as before.
 pub fn append_boot(
     alloc: Global,
     log: &LogView<'_>,
-    matched: &[Pcr],
+    matched: Option<&[Pcr]>,
     form: Form,
     lines: &mut Vec<u8>,
 ) -> Written
     ensures ok { OnOk result ((table : List DeclaredAlgorithm) (events : List LogEvent) → IsLog (log_bytes log.now) table events
-        → (text : List ℕ) × AreBootLines form matched.now events text × (lines.new.items ≡ lines.old.items ++ text)) }
+        → (text : List ℕ) × AreBootTexts form (option_map (λ places. places.now) matched.entry) events text
+        × (lines.new.items ≡ lines.old.items ++ text)) }
     ensures err { OnErr result (lines.new.items ≡ lines.old.items) }
 {
     let mut answers = Vec::new(alloc);
-    append_answers(alloc, log, matched, form, &mut answers)?;
+    append_texts(alloc, log, matched, form, &mut answers)?;
     lines.extend_from_slice(&answers)?;
+    Ok(())
+}
+
+// Appends the lines of all answers, or of all claims if no registers were compared.
+fn append_texts(
+    alloc: Global,
+    log: &LogView<'_>,
+    matched: Option<&[Pcr]>,
+    form: Form,
+    lines: &mut Vec<u8>,
+) -> Written
+    ensures { OnOk result ((table : List DeclaredAlgorithm) (events : List LogEvent) → IsLog (log_bytes log.now) table events
+        → (text : List ℕ) × AreBootTexts form (option_map (λ places. places.now) matched.entry) events text
+        × (lines.new.items ≡ lines.old.items ++ text)) }
+{
+    match matched {
+        Some(places) => append_answers(alloc, log, places, form, lines),
+        None => append_claims(alloc, log, form, lines),
+    }
+}
+
+// Appends the lines of all claims.
+fn append_claims(alloc: Global, log: &LogView<'_>, form: Form, lines: &mut Vec<u8>) -> Written
+    ensures { OnOk result ((table : List DeclaredAlgorithm) (events : List LogEvent) → IsLog (log_bytes log.now) table events
+        → (text : List ℕ) × AreClaimLines form events text × (lines.new.items ≡ lines.old.items ++ text)) }
+{
+    append_word(alloc, form, "claimed", "all", lines)?;
+    append_each(alloc, form, log, &[], BootQuestion::Claims, lines)?;
     Ok(())
 }
 
@@ -82,7 +116,8 @@ fn append_answers(
     Ok(())
 }
 
-fn state_word(state: SecureBoot) -> &'static str
+/// The word for a state of Secure Boot.
+pub(crate) fn state_word(state: SecureBoot) -> &'static str
     ensures { result.now ≡ state_word state }
 {
     match state {
@@ -184,6 +219,8 @@ enum BootQuestion {
     Commands(u32),
     // The variables that say what the firmware was to start.
     Variables,
+    // What it claims, whatever confirms it.
+    Claims,
 }
 
 // Appends the lines of the events of the log for the question, up to the first after which nothing is told.
@@ -231,6 +268,10 @@ fn append_told(
             append_if_command(alloc, form, matched, register, number, event, lines)
         }
         BootQuestion::Variables => append_if_variable(alloc, form, matched, number, event, lines),
+        BootQuestion::Claims => {
+            append_claim(alloc, form, number, event, lines)?;
+            Ok(true)
+        }
     }
 }
 

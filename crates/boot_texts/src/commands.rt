@@ -14,7 +14,7 @@ ghost use Rattle.boot_texts.specs.Telling.{IsCommandLine};
 use boot_answers::{CommandText, told_text};
 use boot_log::Event;
 use cells::{CellWriter, Form, Shown, Written, append, write_shown};
-use event_lines::{append_embedded, command_word, write_wide};
+use event_lines::{append_embedded, command_word, show_register, write_wide};
 use json::Writer;
 use measured_data::Pcr;
 use std::alloc::{AllocError, Global};
@@ -85,7 +85,7 @@ fn show_command(
     ensures { ShowsMembers result out.old out.new (command_cell register number (said_of text.now)) }
 {
     out.number("command ", "command", number as u64)?;
-    out.number(" ", "register", register as u64)?;
+    show_register(" ", register, out)?;
     show_text(alloc, text, out)?;
     show_kind(text, out)
 }
@@ -172,7 +172,7 @@ fn show_unknown_command(register: u32, event: Option<usize>, out: &mut CellWrite
     ensures { ShowsMembers result out.old out.new (unknown_command_cell register event) }
 {
     out.word("command ", "command", "unknown")?;
-    out.number(" ", "register", register as u64)?;
+    show_register(" ", register, out)?;
     show_event(event, out)?;
     out.text("\n")
 }

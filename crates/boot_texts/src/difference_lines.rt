@@ -11,7 +11,7 @@ ghost use Rattle.boot_texts.specs.Differences.{alike_cell, apart_cell, boot_word
 
 use boot_log::{Event, LogView};
 use cells::{CellWriter, Form, Shown, Written, append};
-use event_lines::show_content;
+use event_lines::{show_content, show_register};
 use pcr_banks::{Alg, Digest};
 use std::alloc::Global;
 
@@ -55,7 +55,7 @@ impl Shown for AlikeLine<'_> {
 fn show_alike(register: u32, word: &str, out: &mut CellWriter) -> Written
     ensures { ShowsMembers result out.old out.new (alike_cell register word.now) }
 {
-    out.number("register ", "register", register as u64)?;
+    show_register("register ", register, out)?;
     out.word(" alike ", "alike", word)?;
     out.text("\n")
 }
@@ -82,7 +82,7 @@ impl Shown for ApartLine {
 fn show_apart(register: u32, alg: Alg, place: usize, out: &mut CellWriter) -> Written
     ensures { ShowsMembers result out.old out.new (apart_cell register alg place) }
 {
-    out.number("register ", "register", register as u64)?;
+    show_register("register ", register, out)?;
     out.word(" ", "bank", alg.name())?;
     out.number(" alike ", "alike", place as u64)?;
     out.text("\n")
@@ -195,7 +195,7 @@ impl Shown for BootEvent<'_> {
 fn show_place(register: u32, boot: &str, number: usize, out: &mut CellWriter) -> Written
     ensures { ShowsMembers result out.old out.new (place_cell register boot.now number) }
 {
-    out.number("register ", "register", register as u64)?;
+    show_register("register ", register, out)?;
     out.text(" ")?;
     out.text(boot)?;
     out.number(" ", boot, number as u64)

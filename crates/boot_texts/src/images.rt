@@ -117,8 +117,13 @@ fn answered_digest(matched: &[Pcr], digests: &PerBank, alg: Alg) -> Option<Diges
     }
 }
 
-// Shows the digest, if there is one, with the name of its algorithm.
-fn show_digest(alloc: Global, alg: Alg, digest: Option<Digest>, out: &mut CellWriter) -> Written
+/// Shows the digest, if there is one, with the name of its algorithm.
+pub(crate) fn show_digest(
+    alloc: Global,
+    alg: Alg,
+    digest: Option<Digest>,
+    out: &mut CellWriter,
+) -> Written
     ensures { ShowsMembers result out.old out.new (if_some (option_map bytes_of digest) (digest_cell alg)) }
 {
     match digest {

@@ -13,10 +13,13 @@ ghost use Rattle.boot_answers.specs.Commands.{CommandSaid, told_text};
 ghost use Rattle.boot_answers.specs.FirmwareVersion.{version_type};
 ghost use Rattle.cells.specs.Values.{IsCount, IsOneLine, object_of};
 ghost use Rattle.boot_texts.specs.AnswerCells.{command_cell, image_cell, policy_cell, text_member, unknown_command_cell, variable_cell, version_cell, word_cell};
+ghost use Rattle.boot_texts.specs.Boots.{is_boot_variable};
+ghost use Rattle.boot_texts.specs.Claims.{claim_cell};
+ghost use Rattle.boot_texts.specs.declared.claims.Claim.{Claim};
 ghost use Rattle.boot_texts.specs.declared.difference_lines.ComparedBoot.{ComparedBoot};
 ghost use Rattle.boot_texts.specs.Differences.{alike_cell, apart_cell, event_cell};
 ghost use Rattle.boot_texts.specs.EachBank.{TellText, TellVariable};
-ghost use Rattle.boot_texts.specs.Telling.{is_boot_variable, is_told_variable};
+ghost use Rattle.boot_texts.specs.Telling.{is_told_variable};
 
 use measured_data::parts_are_the_first;
 
@@ -51,6 +54,8 @@ pub fn each_line_is_one_value()
     ensures possible { (number : ℕ) → IsCount number → IsOneLine (object_of (policy_cell (Possible number)).json) }
     ensures variable { (number : ℕ) (event : LogEvent) → IsCount number → AreBytes event.payload
         → IsOneLine (object_of (variable_cell number event).json) }
+    ensures claim { (number : ℕ) (event : LogEvent) (claim : Claim) → IsCount number → IsCount event.register → AreBytes event.payload
+        → IsOneLine (object_of (claim_cell number event claim).json) }
     ensures alike { (register : ℕ) (word : List ℕ) → IsCount register → IsOneLine (object_of (alike_cell register word).json) }
     ensures apart { (register : ℕ) (alg : Alg) (place : ℕ) → IsCount register → IsCount place
         → IsOneLine (object_of (apart_cell register alg place).json) }

@@ -8,7 +8,8 @@ ghost use Rattle.boot_log.specs.Names.{log_event_of};
 ghost use Rattle.event_data.specs.Names.{variable_in, variable_of};
 ghost use Rattle.cells.specs.Cells.{ShowsMembers};
 ghost use Rattle.boot_texts.specs.AnswerCells.{variable_cell};
-ghost use Rattle.boot_texts.specs.Telling.{IsSeparatorBy, MayBeSeparatorIn, IsSettingLine, IsVariableLine, allows_variable, is_boot_variable, is_told_variable, told_variable};
+ghost use Rattle.boot_texts.specs.Boots.{is_boot_variable};
+ghost use Rattle.boot_texts.specs.Telling.{IsSeparatorBy, MayBeSeparatorIn, IsSettingLine, IsVariableLine, allows_variable, is_told_variable, told_variable};
 
 use boot_answers::may_be_separator;
 use boot_log::Event;
@@ -132,8 +133,8 @@ fn is_boot_data(bytes: &[u8]) -> bool
     }
 }
 
-// Whether the variable is claimed to be BootOrder or a Boot####.
-fn is_boot_variable(variable: &Variable<'_>) -> bool
+/// Whether the variable is claimed to be BootOrder or a Boot####.
+pub(crate) fn is_boot_variable(variable: &Variable<'_>) -> bool
     ensures { result ≡ is_boot_variable (variable_of variable.now) }
 {
     matches!(

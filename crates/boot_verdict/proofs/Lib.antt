@@ -1,3 +1,4 @@
+pub mod KeptLaws
 pub mod VerdictLaws
 pub mod StepLaws
 pub mod PositionLaws
@@ -5,3 +6,4 @@ pub mod IsolationLaws
 pub mod ReplayLaws
 pub mod ListVerdictLaws
 pub mod RequirementLaws
+pub mod AggregateLaws

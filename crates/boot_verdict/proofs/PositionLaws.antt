@@ -21,7 +21,7 @@ use Rattle.boot_verdict.specs.declared.steps.Position.TheVariants.{Reset, Event,
 use Rattle.boot_verdict.specs.declared.steps.RowTracker.{RowTracker}
 use Rattle.boot_verdict.specs.declared.report.State.TheVariants as states
 use Rattle.boot_verdict.specs.declared.list_replay.ListReplay.{ListReplay}
-use Rattle.boot_verdict.specs.Names.{AreAfter, AreLocated, AreTracked, IsRowTrackerAfter, IsTracked, OfEntry, OfEvent, ReplaysAll, Step, entries_as_steps, events_as_steps, first_position, has_register, is_found, is_reached, is_value, least_prefix, located_after, located_on, looked_at, pcr_after, pcr_after_log_and_list, pcr_at_reset, position_after, position_at_reset, position_of_prefix, position_on, position_with, reached_after, register_of, row_at_reset, row_state, state_matches, stepped, steps_of, value_after}
+use Rattle.boot_verdict.specs.Names.{AreAfter, AreAtReset, AreLocated, AreTracked, IsRowTrackerAfter, IsTracked, OfEntry, OfEvent, ReplaysAll, Step, entries_as_steps, events_as_steps, first_position, has_register, is_found, is_reached, is_value, least_prefix, located_after, located_on, looked_at, pcr_after, pcr_after_log_and_list, pcr_at_reset, position_after, position_at_reset, position_of_prefix, position_on, position_with, reached_after, register_of, row_at_reset, row_state, state_matches, stepped, steps_of, value_after}
 use Rattle.boot_verdict.proofs.StepLaws.{TellsLeast, banks_joined, fun_same, least_more, least_tells, none_taken, or_all, steps_value, value_quiet}
 
 pub two_ways : (b : Bool) → b ≡ true → b ≡ false → ⊥
@@ -224,18 +224,28 @@ tracker_none start events expected rows are = record {
 
 -- ---- a log and a list
 
+-- The positions of the expected registers among these steps, from banks that have them at their reset values.
+positions_same : (algs : AlgSet) (events : List LogEvent) (banks : Banks) (steps : List Step) (expected : List Expected)
+    → AreAtReset algs events expected banks
+    → map (λ e. located e (first_position (length events) e (value_at banks e.alg e.register) steps)) expected
+    ≡ map (λ e. located e (first_position (length events) e (pcr_at_reset algs events e.alg e.register) steps)) expected
+positions_same algs events banks steps [] at = refl
+positions_same algs events banks steps (e ∷ expected) (here, at) =
+    let first = ap (λ (v : Option (List ℕ)). located e (first_position (length events) e v steps)) here in
+    let others = positions_same algs events banks steps expected at in
+    λ i. first i ∷ others i
+
 -- The rows after the list.
 pub located_all : {algs : AlgSet} {events : List LogEvent} {expected : List Expected} {start now : RowTracker} (entries : List ListEntry)
     → IsTracked algs events expected start → AreTracked IsRowTrackerAfter start entries now → now.rows.items ≡ located_on algs events entries expected
-located_all {events = events} {expected = expected} entries log list =
+located_all {algs = algs} {events = events} {expected = expected} entries log list =
     let steps = steps_of events entries in
     let count = length events in
     let after = list log.start count (events_as_steps events) (sym (length-map events (λ (event : LogEvent). OfEvent event))) log.after in
     after.rows
     ∙ ap (map (λ (row : Located). located_after count log.start.banks steps row.expected)) log.rows
     ∙ map-map (λ (row : Located). located_after count log.start.banks steps row.expected) (row_at_reset log.start.banks) expected
-    ∙ ap (λ (f : Expected → Located). map f expected)
-    (fun_same _ _ (λ e. ap (λ (v : Option (List ℕ)). located e (first_position count e v steps)) (log.reset.values e.alg e.register)))
+    ∙ positions_same algs events log.start.banks steps expected log.reset
 
 pub located_in : {log list : List ℕ} {table : List DeclaredAlgorithm} {events : List LogEvent} {expected : List Expected} {start : RowTracker} {replay : ListReplay RowTracker}
     → IsLog log table events → IsTracked (algs_in table) events expected start → ReplaysAll IsRowTrackerAfter start list replay

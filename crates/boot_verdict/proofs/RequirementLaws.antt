@@ -17,11 +17,12 @@ use Rattle.pcr_values.proofs.SelectionLaws.{ranges_once}
 use Rattle.pcr_values.proofs.RegisterLaws as registers
 use Rattle.boot_log.specs.Names.{LogEvent}
 use Rattle.ima_list.specs.Names.{ListEntry}
+use Rattle.boot_verdict.specs.declared.aggregate_rule.AggregateRule.{AggregateRule}
 use Rattle.boot_verdict.specs.declared.report.Row.{Row}
 use Rattle.boot_verdict.specs.declared.report.State.{State}
 use Rattle.boot_verdict.specs.declared.report.State.TheVariants.{Match, Differ, Absent}
 use Rattle.boot_verdict.specs.declared.isolation.Strays.{Strays}
-use Rattle.boot_verdict.specs.Names.{HasMatch, IsListApart, IsLogApart, IsRequirementText, are_none, bind_list, expected_of_rows, is_complete, is_complete_in, is_good, is_match, is_missing, is_of, list_matches, list_register, list_verdict_on, matches, required_list_matches, required_matches, state_matches, states, verdict_on}
+use Rattle.boot_verdict.specs.Names.{HasMatch, IsListApart, IsLogApart, IsRequirementText, are_none, bind_list, expected_of_rows, is_complete, is_complete_in, is_good, is_match, is_missing, is_of, list_matches, list_register, list_verdict_on, matches, required_list_matches, required_matches, state_matches, states, verdict_under}
 use Rattle.boot_verdict.proofs.IsolationLaws.{list_is_apart, log_is_apart}
 
 -- ---- what is no requirement
@@ -124,12 +125,12 @@ rows_matched rows text ranges alg register is each complete named =
     matched_among rows alg register each (stated (names ranges alg register) (states (expected_of_rows rows) alg register) named kept)
 
 -- Each register that a requirement names has a row that is a match, where the verdict meets it.
-pub required_matched : (algs : AlgSet) (events : List LogEvent) (entries : List ListEntry) (expected : List Expected) (text : List ℕ)
+pub required_matched : (rule : AggregateRule) (algs : AlgSet) (events : List LogEvent) (entries : List ListEntry) (expected : List Expected) (text : List ℕ)
     (ranges : List BankRange) (alg : Alg) (register : ℕ) → SpellsRanges text ranges
-    → required_matches ranges (verdict_on algs events entries expected) ≡ true → names ranges alg register ≡ true
-    → HasMatch (verdict_on algs events entries expected).rows alg register
-required_matched algs events entries expected text ranges alg register is meets named =
-    let verdict = verdict_on algs events entries expected in
+    → required_matches ranges (verdict_under rule algs events entries expected) ≡ true → names ranges alg register ≡ true
+    → HasMatch (verdict_under rule algs events entries expected).rows alg register
+required_matched rule algs events entries expected text ranges alg register is meets named =
+    let verdict = verdict_under rule algs events entries expected in
     let both = and_parts _ (is_complete ranges (expected_of_rows verdict.rows)) meets in
     let alike = (and_parts (matches verdict) (are_none verdict.strays) both.0).0 in
     let each = (and_parts (is_good verdict.aggregate) (list_all is_match verdict.rows) alike).1 in
@@ -158,10 +159,11 @@ none_are strays none =
     (none_is strays.event both.0, none_is strays.entry both.1)
 
 -- Where a verdict meets a requirement, log and list are apart.
-pub required_apart : (algs : AlgSet) (events : List LogEvent) (entries : List ListEntry) (expected : List Expected) (ranges : List BankRange)
-    → required_matches ranges (verdict_on algs events entries expected) ≡ true → IsLogApart events × IsListApart entries
-required_apart algs events entries expected ranges meets =
-    let verdict = verdict_on algs events entries expected in
+pub required_apart : (rule : AggregateRule) (algs : AlgSet) (events : List LogEvent) (entries : List ListEntry) (expected : List Expected)
+    (ranges : List BankRange) → required_matches ranges (verdict_under rule algs events entries expected) ≡ true
+    → IsLogApart events × IsListApart entries
+required_apart rule algs events entries expected ranges meets =
+    let verdict = verdict_under rule algs events entries expected in
     let both = and_parts _ (is_complete ranges (expected_of_rows verdict.rows)) meets in
     let none = none_are verdict.strays (and_parts (matches verdict) (are_none verdict.strays) both.0).1 in
     (log_is_apart 1 events none.0, list_is_apart 0 entries none.1)
@@ -195,12 +197,12 @@ some_alg test any =
     ]
 
 -- Where a verdict meets what a text requires, the list's register matches in some bank.
-pub required_bound : (algs : AlgSet) (events : List LogEvent) (entries : List ListEntry) (expected : List Expected) (text : List ℕ)
-    (ranges : List BankRange) → IsRequirementText text ranges → required_matches ranges (verdict_on algs events entries expected) ≡ true
-    → (alg : Alg) × HasMatch (verdict_on algs events entries expected).rows alg list_register
-required_bound algs events entries expected text ranges is meets =
+pub required_bound : (rule : AggregateRule) (algs : AlgSet) (events : List LogEvent) (entries : List ListEntry) (expected : List Expected) (text : List ℕ)
+    (ranges : List BankRange) → IsRequirementText text ranges → required_matches ranges (verdict_under rule algs events entries expected) ≡ true
+    → (alg : Alg) × HasMatch (verdict_under rule algs events entries expected).rows alg list_register
+required_bound rule algs events entries expected text ranges is meets =
     let bound = some_alg (λ alg. names ranges alg list_register) is.2 in
-    (bound.0, required_matched algs events entries expected text ranges bound.0 list_register is.0 meets bound.1)
+    (bound.0, required_matched rule algs events entries expected text ranges bound.0 list_register is.0 meets bound.1)
 
 pub required_list_bound : (entries : List ListEntry) (expected : List Expected) (text : List ℕ) (ranges : List BankRange)
     → IsRequirementText text ranges → required_list_matches ranges (list_verdict_on entries expected) ≡ true

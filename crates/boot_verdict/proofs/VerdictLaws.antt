@@ -1,10 +1,11 @@
 -- The verdict: registers of the log and of the list, and which fault comes first.
-use Rattle.std.proofs.Common.{◌≡◌, ◌⊎◌, ℕ, List, [], map, Option, Some, option_map, Result, Ok, Err, refl, sym, ap, subst, ◌∙◌, inl, inr}
+use Rattle.std.proofs.Common.{◌≡◌, ◌⊎◌, ℕ, Bool, true, false, cond, List, [], ◌∷◌, map, Option, None, Some, option_map, Result, Ok, Err, refl, sym, ap, subst, ◌∙◌, ◌||◌, inl, inr}
+use Rattle.std.specs.Option.{option_or}
 use Rattle.pcr_banks.specs.declared.alg.Alg.{Alg}
 use Rattle.pcr_banks.specs.declared.banks.Banks.{Banks}
 use Rattle.pcr_banks.specs.declared.digest.Digest.{Digest}
 use Rattle.pcr_banks.specs.declared.sets.AlgSet.{AlgSet}
-use Rattle.pcr_banks.specs.Names.{alg_of, bytes_of, digest_of, extended_by_all, hash_of, value_at}
+use Rattle.pcr_banks.specs.Names.{alg_of, bytes_of, digest_of, extended_by_all, has_alg, hash_of, value_at}
 use Rattle.pcr_banks.proofs.SetLaws.{same_bytes}
 use Rattle.pcr_values.specs.declared.expected.Expected.{Expected}
 use Rattle.boot_log.specs.declared.fault.LogFault.{LogFault}
@@ -12,11 +13,12 @@ use Rattle.boot_log.specs.declared.fault.LogFault.TheVariants as logs
 use Rattle.boot_log.specs.declared.header.DeclaredAlgorithm.{DeclaredAlgorithm}
 use Rattle.boot_log.specs.Names.{HasLogFault, IsFirmware, IsLog, LogEvent, algs_in, log_fault}
 use Rattle.ima_list.specs.Names.{IsReplayed, ListEntry, aggregate_register_count, boot_aggregate_of, digests_of, joined_values}
+use Rattle.boot_verdict.specs.declared.aggregate_rule.AggregateRule.{AggregateRule}
 use Rattle.boot_verdict.specs.declared.checkpoint.Checkpoint.{Checkpoint}
 use Rattle.boot_verdict.specs.declared.report.Row.{Row}
 use Rattle.boot_verdict.specs.declared.verifier.VerifyFault.{VerifyFault}
 use Rattle.boot_verdict.specs.declared.verifier.VerifyFault.TheVariants as faults
-use Rattle.boot_verdict.specs.Names.{IsCheckpoint, IsMoreFault, IsVerdict, IsVerifyFault, IsVerifyFaultFrom, ReadsAsLog, Verdict, aggregate_of, aggregate_state, booted_aggregate, fault_of_log, pcr_after_log, pcr_after_log_and_list, row_of, row_on, row_state, verdict_on}
+use Rattle.boot_verdict.specs.Names.{HaveSame, IsCheckpoint, IsMoreFault, IsVerdictUnder, IsVerifyFault, IsVerifyFaultFrom, ReadsAsLog, Verdict, aggregate_of, aggregate_state, booted_aggregate, fault_of_log, is_asked, pcr_after_log, pcr_after_log_and_list, row_of, row_on, row_state, taken_by, verdict_under}
 use Rattle.boot_verdict.proofs.StepLaws.{fun_same}
 
 -- ---- registers
@@ -36,26 +38,62 @@ aggregate_same algs events start recorded value alg firmware by is =
     ∙ ap (aggregate_state (bytes_of recorded)) (same_bytes alg (boot_aggregate_of start alg) ∙ booted_same algs events start alg firmware)
     ∙ ap (λ (a : Alg). aggregate_state (bytes_of recorded) (booted_aggregate algs events a)) by
 
--- A register after the log and the list.
-final_same : (algs : AlgSet) (events : List LogEvent) (entries : List ListEntry) (start banks : Banks) (alg : Alg) (register : ℕ)
-    → IsFirmware algs events start → IsReplayed start entries banks
+taken_where : {A B : Type 0} (f : A → B) (wide : Bool) (recorded told : Option A)
+    → option_map f (cond wide (option_or recorded told) recorded) ≡ cond wide (option_or (option_map f recorded) (option_map f told)) (option_map f recorded)
+taken_where f false recorded told = refl
+taken_where f true None told = refl
+taken_where f true (Some digest) told = refl
+
+-- What a rule takes of digests is what it takes of their bytes.
+pub taken_same : {A B : Type 0} (f : A → B) (rule : AggregateRule) (recorded told : Option A)
+    → option_map f (taken_by rule recorded told) ≡ taken_by rule (option_map f recorded) (option_map f told)
+taken_same f rule recorded told = taken_where f rule.wide recorded told
+
+-- The values after the log.
+pub values_after_log : (algs : AlgSet) (events : List LogEvent) (start : Banks) → IsFirmware algs events start
+    → value_at start ≡ pcr_after_log algs events
+values_after_log algs events start firmware = λ i alg register. firmware.values alg register i
+
+-- A register after the log and the list, where the list is replayed from banks that have it.
+pub final_same : (algs : AlgSet) (events : List LogEvent) (entries : List ListEntry) (start before banks : Banks) (alg : Alg) (register : ℕ)
+    → IsFirmware algs events start → value_at before alg register ≡ value_at start alg register → IsReplayed before entries banks
     → value_at banks alg register ≡ pcr_after_log_and_list algs events entries alg register
-final_same algs events entries start banks alg register firmware replayed =
+final_same algs events entries start before banks alg register firmware same replayed =
     replayed.values alg register
     ∙ ap (λ (v : Option (List ℕ)). option_map (λ value. extended_by_all alg value (digests_of entries alg register)) v)
-    (firmware.values alg register)
+    (same ∙ firmware.values alg register)
+
+-- The banks have the values of those of these algorithms and of the expected registers, and of no other.
+abbrev pub HasOf : List Expected → AlgSet → Banks → Banks → Type 0
+HasOf expected more first second = (alg : Alg) (register : ℕ)
+    → value_at first alg register ≡ cond (has_alg more alg || is_asked expected alg) (value_at second alg register) None
+
+extended_where : (kept : Bool) (f : List ℕ → List ℕ) (value : Option (List ℕ)) → option_map f (cond kept value None) ≡ cond kept (option_map f value) None
+extended_where true f value = refl
+extended_where false f value = refl
+
+-- So it is with a register that is kept, or is not.
+pub final_kept : (algs : AlgSet) (events : List LogEvent) (entries : List ListEntry) (start before banks : Banks) (alg : Alg) (register : ℕ)
+    (kept : Bool) → IsFirmware algs events start → value_at before alg register ≡ cond kept (value_at start alg register) None
+    → IsReplayed before entries banks → value_at banks alg register ≡ cond kept (pcr_after_log_and_list algs events entries alg register) None
+final_kept algs events entries start before banks alg register kept firmware same replayed =
+    let extended : List ℕ → List ℕ = λ value. extended_by_all alg value (digests_of entries alg register) in
+    replayed.values alg register
+    ∙ ap (option_map extended) (same ∙ ap (λ (v : Option (List ℕ)). cond kept v None) (firmware.values alg register))
+    ∙ extended_where kept extended (pcr_after_log algs events alg register)
 
 -- The row of an expected register that has this value.
 abbrev row_with : Expected → Option (List ℕ) → Row
 row_with e value = record { expected = e; state = row_state e value }
 
-pub rows_same : (algs : AlgSet) (events : List LogEvent) (entries : List ListEntry) (start banks : Banks) (expected : List Expected)
-    → IsFirmware algs events start → IsReplayed start entries banks
+pub rows_same : (algs : AlgSet) (events : List LogEvent) (entries : List ListEntry) (start before banks : Banks) (expected : List Expected)
+    → IsFirmware algs events start → HaveSame expected before start → IsReplayed before entries banks
     → map (row_of banks) expected ≡ map (row_on algs events entries) expected
-rows_same algs events entries start banks expected firmware replayed =
-    ap (λ (f : Expected → Row). map f expected)
-    (fun_same (row_of banks) (row_on algs events entries) (λ e. ap (row_with e)
-    (final_same algs events entries start banks e.alg e.register firmware replayed)))
+rows_same algs events entries start before banks [] firmware same replayed = refl
+rows_same algs events entries start before banks (e ∷ expected) firmware (here, same) replayed =
+    let first = ap (row_with e) (final_same algs events entries start before banks e.alg e.register firmware here replayed) in
+    let others = rows_same algs events entries start before banks expected firmware same replayed in
+    λ i. first i ∷ others i
 
 -- ---- results
 
@@ -134,9 +172,9 @@ pub log_viewed : {viewed log : List ℕ} {table : List DeclaredAlgorithm} {event
 log_viewed {table = table} {events = events} same is = subst (λ (bytes : List ℕ). IsLog bytes table events) (sym same) is
 
 -- The report on what is known of a list is the verdict.
-pub verdict_by : {log list : List ℕ} {expected : List Expected} {verdict : Verdict} {table : List DeclaredAlgorithm} {events : List LogEvent} {known : Checkpoint}
-    → IsLog log table events → (is : IsCheckpoint list known) → verdict ≡ verdict_on (algs_in table) events is.entries expected
-    → IsVerdict log list expected verdict
+pub verdict_by : {rule : AggregateRule} {log list : List ℕ} {expected : List Expected} {verdict : Verdict} {table : List DeclaredAlgorithm} {events : List LogEvent} {known : Checkpoint}
+    → IsLog log table events → (is : IsCheckpoint list known) → verdict ≡ verdict_under rule (algs_in table) events is.entries expected
+    → IsVerdictUnder rule log list expected verdict
 verdict_by {table = table} {events = events} log is same = record {
   table = table;
   events = events;

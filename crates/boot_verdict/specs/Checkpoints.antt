@@ -9,7 +9,7 @@ use Rattle.boot_verdict.specs.Isolation.{first_stray}
 use Rattle.boot_verdict.specs.ListReplays.{AreTracked}
 use Rattle.boot_verdict.specs.ListSources.{CameWhole, IsListFaultAfter}
 use Rattle.boot_verdict.specs.Tracking.{After}
-use Rattle.boot_verdict.specs.Verdicts.{IsForged, recorded_aggregate}
+use Rattle.boot_verdict.specs.Verdicts.{IsForged, recorded_aggregate, told_aggregate}
 
 -- The bytes are a list of genuine entries, and this is known after it.
 pub record IsCheckpoint (list : List ℕ) (known : Checkpoint) : Type 0 where
@@ -20,6 +20,7 @@ pub record IsCheckpoint (list : List ℕ) (known : Checkpoint) : Type 0 where
   pub count : known.entries ≡ length entries
   pub size : known.bytes ≡ length list
   pub recorded : option_map (λ digest. (alg_of digest, bytes_of digest)) known.recorded ≡ recorded_aggregate entries
+  pub told : option_map (λ digest. (alg_of digest, bytes_of digest)) known.told ≡ told_aggregate entries
   pub stray : known.stray ≡ first_stray entries
 
 -- How many bytes may follow a checkpoint, where `limit` are allowed: a list has fewer than 2^63 bytes.

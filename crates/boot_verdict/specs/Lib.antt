@@ -7,6 +7,7 @@ pub mod Replays
 pub mod parts
 pub mod Requirements
 pub mod ListVerdicts
+pub mod WatchedVerdicts
 pub mod Tracking
 pub mod Words
 pub mod ListReplays

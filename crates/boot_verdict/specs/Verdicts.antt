@@ -2,6 +2,7 @@
 -- entries change the registers is defined in boot_log and ima_list.
 use Rattle.std.specs.Prelude.{◌≡◌, ℕ, ◌&&◌, nat_lt, Bool, true, false, if◌then◌else◌, List, [], ◌∷◌, length, map, bytes_eq, Option, Some, None, option_map, Ok, Err}
 use Rattle.std.specs.List.{list_all}
+use Rattle.std.specs.Option.{option_map_or, option_or}
 use Rattle.pcr_banks.specs.declared.alg.Alg.{Alg}
 use Rattle.pcr_banks.specs.declared.sets.AlgSet.{AlgSet}
 use Rattle.pcr_banks.specs.Names.{alg_of, bytes_of, digest_of, extended_by_all, has_alg, hash_of, register_count, same_alg}
@@ -15,13 +16,14 @@ use Rattle.boot_log.specs.Names.{IsLog, LogEvent, algs_in, firmware_value, log_f
 use Rattle.ima_list.specs.declared.fault.ListFault.{ListFault}
 use Rattle.ima_list.specs.declared.fault.ListFault.TheVariants as lists
 use Rattle.ima_list.specs.declared.list_replay.ReplayFault.{ReplayFault}
-use Rattle.ima_list.specs.Names.{AreGenuine, FileFields, IsReading, IsReplayFault, ListEntry, aggregate_register_count, boot_aggregate_path, digests_of, fields_of, is_violation, joined_values}
+use Rattle.ima_list.specs.Names.{AreGenuine, FileFields, FileTold, IsReading, IsReplayFault, ListEntry, aggregate_register_count, boot_aggregate_path, digests_of, fields_of, is_violation, joined_values, kernel_file_of, old_aggregate}
+use Rattle.boot_verdict.specs.declared.aggregate_rule.AggregateRule.{AggregateRule}
 use Rattle.boot_verdict.specs.declared.isolation.Strays.{Strays}
 use Rattle.boot_verdict.specs.declared.report.Row.{Row}
 use Rattle.boot_verdict.specs.declared.report.State.{State}
 use Rattle.boot_verdict.specs.declared.report.State.TheVariants.{Match, Differ, Absent}
 use Rattle.boot_verdict.specs.declared.report.Aggregate.{Aggregate}
-use Rattle.boot_verdict.specs.declared.report.Aggregate.TheVariants.{Good, Wrong, NoBank, Missing}
+use Rattle.boot_verdict.specs.declared.report.Aggregate.TheVariants.{Good, Wrong, NoBank, Missing, Old}
 use Rattle.boot_verdict.specs.declared.report.Report.{Report}
 use Rattle.boot_verdict.specs.declared.verifier.VerifyFault.{VerifyFault}
 use Rattle.boot_verdict.specs.declared.verifier.VerifyFault.TheVariants as faults
@@ -69,6 +71,24 @@ abbrev pub recorded_aggregate : List ListEntry → Option (Alg × List ℕ)
 recorded_aggregate [] = None
 recorded_aggregate (first ∷ entries) = recorded_in first
 
+-- The file digest that is told, if the path is `boot_aggregate`.
+abbrev pub aggregate_told : Option FileTold → Option (Alg × List ℕ)
+aggregate_told None = None
+aggregate_told (Some file) =
+    if bytes_eq file.path boot_aggregate_path then Some (alg_of file.digest, bytes_of file.digest) else None
+
+-- The boot aggregate that this entry, of another of the kernel's templates, records as the first of a list; a violation records none.
+abbrev pub told_in : ListEntry → Option (Alg × List ℕ)
+told_in first = if is_violation first then None else aggregate_told (kernel_file_of first)
+
+-- What this entry records as the first of a list by its template, whichever of the kernel's that is.
+abbrev pub recorded_by_any : ListEntry → Option (Alg × List ℕ)
+recorded_by_any first = option_or (recorded_in first) (told_in first)
+
+abbrev pub told_aggregate : List ListEntry → Option (Alg × List ℕ)
+told_aggregate [] = None
+told_aggregate (first ∷ entries) = told_in first
+
 -- The boot aggregate of the log's registers: the hash of the bank's first ones, joined.
 abbrev pub booted_aggregate : AlgSet → List LogEvent → Alg → Option (List ℕ)
 booted_aggregate algs events alg = option_map (hash_of alg) (joined_values (pcr_after_log algs events alg) (aggregate_register_count alg))
@@ -81,6 +101,42 @@ abbrev pub aggregate_of : AlgSet → List LogEvent → Option (Alg × List ℕ) 
 aggregate_of algs events None = Missing
 aggregate_of algs events (Some recorded) = aggregate_state recorded.1 (booted_aggregate algs events recorded.0)
 
+-- ---- rules for the boot aggregate. That a caller may choose one is this project's choice.
+
+-- The first entry is of `ima`, `ima-ng` or `ima-sig`, and records the boot aggregate as kernels make it since 5.8.
+abbrev pub plain_rule : AggregateRule
+plain_rule = record { wide = false; old_kernel = false }
+
+-- The first entry is of any template whose file is told; and an older kernel's aggregate is taken, or not.
+abbrev pub wide_rule : Bool → AggregateRule
+wide_rule old_kernel = record { wide = true; old_kernel = old_kernel }
+
+-- What is taken of what an entry of these templates records, and of what one of another template does: that only by a wide rule.
+abbrev pub taken_by : {A : Type 0} → AggregateRule → Option A → Option A → Option A
+taken_by rule recorded told = if rule.wide then option_or recorded told else recorded
+
+-- What is recorded, if something is, is the aggregate of a kernel before 5.8 for these values in its bank.
+abbrev pub is_old : (Alg → ℕ → Option (List ℕ)) → Option (Alg × List ℕ) → Bool
+is_old values None = false
+is_old values (Some recorded) = option_map_or (bytes_eq recorded.1) (old_aggregate values recorded.0) false
+
+-- The state where an older kernel's aggregate is taken or not, and is recorded or not.
+abbrev pub or_old : Bool → Bool → Aggregate → Aggregate
+or_old true true Wrong = Old
+or_old takes_old is_old state = state
+
+-- The state by a rule of what is taken.
+abbrev pub state_under : AggregateRule → AlgSet → List LogEvent → Option (Alg × List ℕ) → Aggregate
+state_under rule algs events taken = or_old rule.old_kernel (is_old (pcr_after_log algs events) taken) (aggregate_of algs events taken)
+
+-- The state by a rule of what the first entry records, or is told by another template.
+abbrev pub aggregate_with : AggregateRule → AlgSet → List LogEvent → Option (Alg × List ℕ) → Option (Alg × List ℕ) → Aggregate
+aggregate_with rule algs events recorded told = state_under rule algs events (taken_by rule recorded told)
+
+-- The state by a rule of the boot aggregate of a list.
+abbrev pub aggregate_under : AggregateRule → AlgSet → List LogEvent → List ListEntry → Aggregate
+aggregate_under rule algs events entries = aggregate_with rule algs events (recorded_aggregate entries) (told_aggregate entries)
+
 -- ---- the verdict
 
 pub record Verdict : Type 0 where
@@ -91,22 +147,27 @@ pub record Verdict : Type 0 where
   pub strays : Strays
   pub rows : List Row
 
--- The verdict on the events of a log with these algorithms, the entries of a list, and expected registers.
-abbrev pub verdict_on : AlgSet → List LogEvent → List ListEntry → List Expected → Verdict
-verdict_on algs events entries expected = record {
+-- The verdict by a rule on the events of a log with these algorithms, the entries of a list, and expected registers.
+abbrev pub verdict_under : AggregateRule → AlgSet → List LogEvent → List ListEntry → List Expected → Verdict
+verdict_under rule algs events entries expected = record {
   events = length events;
   locality = startup_locality events;
   entries = length entries;
-  aggregate = aggregate_of algs events (recorded_aggregate entries);
+  aggregate = aggregate_under rule algs events entries;
   strays = strays_of events entries;
   rows = map (row_on algs events entries) expected;
 }
+
+-- The verdict by the plain rule: there the boot aggregate is `aggregate_of algs events (recorded_aggregate entries)`.
+abbrev pub verdict_on : AlgSet → List LogEvent → List ListEntry → List Expected → Verdict
+verdict_on algs events entries expected = verdict_under plain_rule algs events entries expected
 
 abbrev pub is_good : Aggregate → Bool
 is_good Good = true
 is_good Wrong = false
 is_good NoBank = false
 is_good Missing = false
+is_good Old = true
 
 abbrev pub state_matches : State → Bool
 state_matches Match = true
@@ -120,15 +181,19 @@ is_match row = state_matches row.state
 abbrev pub matches : Verdict → Bool
 matches verdict = is_good verdict.aggregate && list_all is_match verdict.rows
 
--- The bytes are a log and a list, each entry is genuine, and this is the verdict on them.
-pub record IsVerdict (log list : List ℕ) (expected : List Expected) (verdict : Verdict) : Type 0 where
+-- The bytes are a log and a list, each entry is genuine, and this is the verdict on them by the rule.
+pub record IsVerdictUnder (rule : AggregateRule) (log list : List ℕ) (expected : List Expected) (verdict : Verdict) : Type 0 where
   pub table : List DeclaredAlgorithm
   pub events : List LogEvent
   pub entries : List ListEntry
   pub log_is : IsLog log table events
   pub list_is : IsReading list (Ok entries)
   pub genuine : AreGenuine entries
-  pub verdict_is : verdict ≡ verdict_on (algs_in table) events entries expected
+  pub verdict_is : verdict ≡ verdict_under rule (algs_in table) events entries expected
+
+-- By the plain rule.
+abbrev pub IsVerdict : List ℕ → List ℕ → List Expected → Verdict → Type 0
+IsVerdict log list expected verdict = IsVerdictUnder plain_rule log list expected verdict
 
 -- ---- why there is no verdict
 
@@ -180,11 +245,15 @@ fault_of_reading reads.Memory = faults.Memory
 
 -- ---- a list that comes from a source
 
--- All bytes that the source had left, at most `limit`, are a list, and this is the verdict on the log and the list.
-pub record IsVerdictFrom (log : List ℕ) (old new : Option (List ℕ)) (limit : ℕ) (expected : List Expected) (verdict : Verdict) : Type 0 where
+-- All bytes that the source had left, at most `limit`, are a list, and this is the verdict by the rule on the log and the list.
+pub record IsVerdictUnderFrom (rule : AggregateRule) (log : List ℕ) (old new : Option (List ℕ)) (limit : ℕ) (expected : List Expected) (verdict : Verdict) : Type 0 where
   pub list : List ℕ
   pub came : CameWhole old new limit list
-  pub verdict_is : IsVerdict log list expected verdict
+  pub verdict_is : IsVerdictUnder rule log list expected verdict
+
+-- By the plain rule.
+abbrev pub IsVerdictFrom : List ℕ → Option (List ℕ) → Option (List ℕ) → ℕ → List Expected → Verdict → Type 0
+IsVerdictFrom log old new limit expected verdict = IsVerdictUnderFrom plain_rule log old new limit expected verdict
 
 -- Why there is no verdict on a log and the list that a source has left: the first of these that holds. A fault of the log leaves
 -- the source as it was, and `Replay` comes only after all of the list.

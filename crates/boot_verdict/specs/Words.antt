@@ -4,7 +4,7 @@ use Rattle.ima_list.specs.Names.{list_fault_entry, list_fault_number, replay_fau
 use Rattle.boot_verdict.specs.declared.report.Unconfirmed.{Unconfirmed}
 use Rattle.boot_verdict.specs.declared.report.Unconfirmed.TheVariants as faults
 use Rattle.boot_verdict.specs.declared.report.Aggregate.{Aggregate}
-use Rattle.boot_verdict.specs.declared.report.Aggregate.TheVariants.{Good, Wrong, NoBank, Missing}
+use Rattle.boot_verdict.specs.declared.report.Aggregate.TheVariants.{Good, Wrong, NoBank, Missing, Old}
 
 -- The state of a boot aggregate.
 abbrev pub aggregate_word : Aggregate → List ℕ
@@ -12,6 +12,7 @@ aggregate_word Good = codes "good"
 aggregate_word Wrong = codes "wrong"
 aggregate_word NoBank = codes "nobank"
 aggregate_word Missing = codes "missing"
+aggregate_word Old = codes "old_kernel"
 
 -- ---- what is wrong after a confirmed prefix
 

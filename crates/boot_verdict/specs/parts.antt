@@ -1,3 +1,4 @@
+pub mod Kept
 pub mod LogPositions
 pub mod Rows
 pub mod RowTrackers

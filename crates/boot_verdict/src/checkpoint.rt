@@ -37,6 +37,8 @@ pub struct Checkpoint {
     pub bytes: u64,
     /// The boot aggregate that its first entry records, if any.
     pub recorded: Option<Digest>,
+    /// The boot aggregate that its first entry records by another of the kernel's templates, if any.
+    pub told: Option<Digest>,
     /// The first of its entries that extends another register than that of the list, if any.
     pub stray: Option<Stray>,
 }
@@ -111,6 +113,7 @@ impl Checkpoint {
             entries: replay.entries,
             bytes,
             recorded: replay.recorded,
+            told: replay.told,
             stray: replay.stray,
         }
     }
@@ -125,6 +128,7 @@ impl Checkpoint {
             tracker: self.after,
             entries: self.entries,
             recorded: self.recorded,
+            told: self.told,
             stray: self.stray,
             forged: None,
         }

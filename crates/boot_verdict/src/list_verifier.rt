@@ -11,6 +11,7 @@ ghost use Rattle.boot_verdict.specs.Replays.{IsListReplayFault};
 
 use crate::checkpoint::Checkpoint;
 use crate::isolation::Strays;
+use crate::kept::banks_for;
 use crate::list_registers::list_start;
 use crate::report::{Row, all_match};
 use crate::requirement::Requirement;
@@ -47,8 +48,8 @@ impl ListReport {
     }
 }
 
-/// Replays a measurement list of at most `limit` bytes without a firmware event log, as [`crate::replay_from`] does, and compares the
-/// registers with the expected ones, in their order. Without an entry, or an expected register, there is a report, but it
+/// Replays a measurement list of at most `limit` bytes without a firmware event log, as [`crate::replay_from`] does, but into the banks of
+/// the expected registers alone, and compares the registers with the expected ones, in their order. Without an entry, or an expected register, there is a report, but it
 /// does not match. `watch` takes the entries, and is returned.
 ///
 /// Fails as [`crate::replay_from`] does.
@@ -77,7 +78,8 @@ pub fn verify_list_from<R: Source, W: Tracker>(
     ensures telling { is_some (R.state list.new).remaining ≡ is_some (R.state list.old).remaining }
     ensures counts { (R.state list.new).failures ≡ failures_after_list result (R.state list.old).failures }
 {
-    let (known, watch) = Checkpoint::before_list(list_start()).go_on(alloc, list, limit, watch)?;
+    let first = Checkpoint::before_list(banks_for(&list_start(), expected));
+    let (known, watch) = first.go_on(alloc, list, limit, watch)?;
     let report = ListReport {
         entries: known.entries,
         strays: Strays {

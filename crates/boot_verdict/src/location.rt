@@ -16,6 +16,7 @@ ghost use Rattle.boot_verdict.specs.Positions.{AreLocated, AreLocatedFrom, locat
 ghost use Rattle.boot_verdict.specs.Verdicts.{ReadsAsLog, IsVerifyFault, IsVerifyFaultFrom};
 ghost use Rattle.boot_verdict.specs.parts.LogPositions.{IsTracked, position_at_reset, row_at_reset};
 
+use crate::kept::banks_for;
 use crate::list_replay::ListReplay;
 use crate::steps::{Located, Position, RowTracker, Step, Tracker};
 use crate::verifier::VerifyFault;
@@ -83,7 +84,7 @@ pub fn locate_from<R: Source>(
     Ok(replay.tracker.rows)
 }
 
-// The registers after the log's events, and the positions of the expected values among them.
+// The expected registers after the log's events, in their banks alone, and the positions of the expected values among them.
 fn track_log(
     alloc: Global,
     log: &LogView<'_>,
@@ -92,7 +93,7 @@ fn track_log(
     ensures { (table : List DeclaredAlgorithm) (events : List LogEvent) → IsLog (log_bytes log.now) table events
         → IfOk result (IsTracked (algs_in table) events expected.now) }
 {
-    let banks = log.reset_registers();
+    let banks = banks_for(&log.reset_registers(), expected);
     let rows = rows_at_reset(alloc, &banks, expected)?;
     let mut tracker = RowTracker { banks, rows };
     track_events(&mut tracker, log.events());

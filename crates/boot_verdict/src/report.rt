@@ -46,14 +46,16 @@ pub enum Aggregate {
     NoBank,
     /// The list is empty, or its first entry records no boot aggregate.
     Missing,
+    /// It records that of PCRs 0 to 7 alone, as kernels before 5.8 make it, and the rule takes that.
+    Old,
 }
 
 impl Aggregate {
-    /// Whether the list records the boot aggregate of the log.
+    /// Whether the list records the boot aggregate of the log, as the rule takes it.
     pub fn is_good(self) -> bool
         ensures { result ≡ is_good self }
     {
-        matches!(self, Aggregate::Good)
+        matches!(self, Aggregate::Good | Aggregate::Old)
     }
 }
 
@@ -66,6 +68,7 @@ pub fn aggregate_word(aggregate: Aggregate) -> &'static str
         Aggregate::Wrong => "wrong",
         Aggregate::NoBank => "nobank",
         Aggregate::Missing => "missing",
+        Aggregate::Old => "old_kernel",
     }
 }
 

@@ -9,13 +9,16 @@ ghost use Rattle.boot_log.specs.declared.header.DeclaredAlgorithm.{DeclaredAlgor
 ghost use Rattle.boot_log.specs.Names.{IsFirmware, IsLog, LogEvent, algs_in, log_bytes};
 ghost use Rattle.ima_list.specs.Names.{AreGenuine, IsReading, ListEntry};
 ghost use Rattle.boot_verdict.specs.declared.verifier.VerifyFault.TheVariants.{Memory, Replay};
-ghost use Rattle.boot_verdict.specs.Verdicts.{HasSomethingToKeep, ReadsAsLog, IsVerdict, IsVerdictFrom, IsVerifyFault, IsVerifyFaultFrom, aggregate_of, aggregate_state, fault_of_list, fault_of_log, fault_of_reading, row_state, verdict_of, verdict_on};
+ghost use Rattle.boot_verdict.specs.Verdicts.{HasSomethingToKeep, ReadsAsLog, IsVerdict, IsVerdictFrom, IsVerifyFault, IsVerifyFaultFrom, aggregate_of, aggregate_state, fault_of_list, fault_of_log, fault_of_reading, row_state, verdict_of, verdict_on, verdict_under};
+ghost use Rattle.boot_verdict.specs.parts.Kept.{HaveSame};
 ghost use Rattle.boot_verdict.specs.parts.Rows.{row_of};
 ghost use Rattle.boot_verdict.specs.ListSources.{HoldsGenuineList, failures_after_list};
 ghost use Rattle.boot_verdict.specs.Checkpoints.{IsCheckpoint};
 
+use crate::aggregate_rule::{AggregateRule, aggregate_with};
 use crate::checkpoint::Checkpoint;
 use crate::isolation::{Strays, first_extending};
+use crate::kept::banks_for;
 use crate::report::{Aggregate, Report, Row, State};
 use crate::steps::Nobody;
 use boot_log::{LogFault, LogView};
@@ -121,8 +124,8 @@ pub fn verify(
 {
     let log = LogView::new(log)?;
     let start = log.registers();
-    let known = Checkpoint::of_list(start, list)?;
-    Ok(report_on(alloc, &log, &known, expected)?)
+    let known = Checkpoint::of_list(banks_for(&start, expected), list)?;
+    Ok(report_after(alloc, &log, &start, &known, expected, AggregateRule::PLAIN)?)
 }
 
 /// As [`verify`], for a list of at most `limit` bytes that is read from a source. Each entry is replayed as its bytes arrive;
@@ -155,13 +158,20 @@ pub fn verify_from<R: Source>(
     ensures counts { (R.state list.new).failures ≡ failures_after_list result (R.state list.old).failures }
 {
     let firmware = LogView::new(log)?;
-    let (known, _nobody) = Checkpoint::before_list(firmware.registers()).go_on(
-        alloc, list, limit, Nobody,
-    )?;
-    Ok(report_on(alloc, &firmware, &known, expected)?)
+    let start = firmware.registers();
+    let first = Checkpoint::before_list(banks_for(&start, expected));
+    let (known, _nobody) = first.go_on(alloc, list, limit, Nobody)?;
+    Ok(report_after(
+        alloc,
+        &firmware,
+        &start,
+        &known,
+        expected,
+        AggregateRule::PLAIN,
+    )?)
 }
 
-/// The report on a log and on the list of a checkpoint. Fails only if memory runs out.
+/// The report by this rule on a log and on the list of a checkpoint. Fails only if memory runs out.
 ///
 /// Nothing is compared here: if the log leaves other registers than those before the checkpoint's list, or it is the checkpoint of no
 /// list, the report says nothing. A session (of `growing_lists`) compares the registers before it goes on.
@@ -170,16 +180,33 @@ pub fn report_on(
     log: &LogView<'_>,
     known: &Checkpoint,
     expected: &[Expected],
+    rule: AggregateRule,
 ) -> Result<Report, AllocError>
     ensures { IfOk result (λ report. (table : List DeclaredAlgorithm) (events : List LogEvent) (list : List ℕ) → IsLog (log_bytes log.now) table events
         → IsFirmware (algs_in table) events known.now.before → (is : IsCheckpoint list known.now)
-        → verdict_of report ≡ verdict_on (algs_in table) events is.entries expected.now) }
+        → verdict_of report ≡ verdict_under rule (algs_in table) events is.entries expected.now) }
+{
+    report_after(alloc, log, &known.before, known, expected, rule)
+}
+
+/// As [`report_on`], where the log leaves these registers, and the checkpoint has the banks of the expected ones.
+pub(crate) fn report_after(
+    alloc: Global,
+    log: &LogView<'_>,
+    start: &Banks,
+    known: &Checkpoint,
+    expected: &[Expected],
+    rule: AggregateRule,
+) -> Result<Report, AllocError>
+    ensures { IfOk result (λ report. (table : List DeclaredAlgorithm) (events : List LogEvent) (list : List ℕ) → IsLog (log_bytes log.now) table events
+        → IsFirmware (algs_in table) events start.now → HaveSame expected.now known.now.before start.now → (is : IsCheckpoint list known.now)
+        → verdict_of report ≡ verdict_under rule (algs_in table) events is.entries expected.now) }
 {
     Ok(Report {
         events: log.count(),
         locality: log.locality(),
         entries: known.entries,
-        aggregate: aggregate_of(&known.before, known.recorded),
+        aggregate: aggregate_with(rule, start, known.recorded, known.told),
         strays: Strays {
             event: first_extending(log),
             entry: known.stray,

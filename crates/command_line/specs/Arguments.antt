@@ -1,7 +1,8 @@
 -- The commands as clap takes them, and the plan that comes from the arguments.
-use Rattle.std.specs.Prelude.{◌≡◌, Bool, true, false, Option, None, String, List, [], ◌∷◌, codes, Ok, Some, ℕ, ◌⊎◌, ◌||◌, ◌==◌, IsTrue, bytes_eq, map, option_map, unwrap_or, string_bytes}
+use Rattle.std.specs.Prelude.{◌≡◌, Bool, true, false, Option, None, String, List, [], ◌∷◌, codes, Ok, Some, ℕ, ◌⊎◌, ◌||◌, ◌&&◌, ◌==◌, IsTrue, bytes_eq, map, option_map, unwrap_or, string_bytes}
 use Rattle.std.specs.Global.{Global, Vec}
 use Rattle.std.specs.List.{fold, list_any, starts_with}
+use Rattle.std.specs.Option.{option_map_or}
 use Rattle.clap.specs.Words.{App, Rule, Text, new_app, new_rule, with_rule, with_subcommand, Row, all_of, first_of, subcommand_of}
 use Rattle.clap.specs.Lexer.{usize_max}
 use Rattle.clap.specs.declared.builder.ArgAction.TheVariants.{Append, SetTrue, Version as show_version}
@@ -15,12 +16,15 @@ use Rattle.hex.specs.Hex.{decode_of}
 use Rattle.agent_plans.specs.declared.plan.AttestOptions.{AttestOptions}
 use Rattle.agent_plans.specs.declared.plan.ConfirmedBy.{ConfirmedBy}
 use Rattle.agent_plans.specs.declared.plan.ConfirmedBy.TheVariants.{Expected, Nothing, Quote}
+use Rattle.agent_plans.specs.declared.plan.Conversion.{Conversion}
+use Rattle.agent_plans.specs.declared.plan.Conversion.TheVariants as conversions
 use Rattle.agent_plans.specs.declared.plan.DataShown.{DataShown}
 use Rattle.agent_plans.specs.declared.plan.DataShown.TheVariants.{Bytes, Meaning}
 use Rattle.cells.specs.declared.writer.Form.{Form}
 use Rattle.cells.specs.declared.writer.Form.TheVariants as forms
 use Rattle.agent_plans.specs.declared.plan.ComparisonKind.{ComparisonKind}
 use Rattle.agent_plans.specs.declared.plan.ComparisonKind.TheVariants as kinds
+use Rattle.agent_plans.specs.declared.plan.LogFile.{LogFile}
 use Rattle.agent_plans.specs.declared.plan.Measurement.{Measurement}
 use Rattle.agent_plans.specs.declared.plan.NameEnd.TheVariants.{LineFeed, Nul}
 use Rattle.agent_plans.specs.declared.plan.Names.{Names}
@@ -96,10 +100,12 @@ abbrev pub table : Parsers → List (Text × List Rule)
 table parsers = (
   codes "verify",
   without_default (codes "require")
+      ∷ flag (codes "old-kernel")
       ∷ several (codes "known")
       ∷ flag (codes "prefix")
       ∷ without_default (codes "save")
       ∷ without_default (codes "resume")
+      ∷ flag (codes "hcrtm")
       ∷ flag (codes "explain")
       ∷ flag (codes "json")
       ∷ required (codes "LOG")
@@ -113,12 +119,14 @@ table parsers = (
           ∷ required_option (codes "require")
           ∷ several (codes "known")
           ∷ flag (codes "sha1")
+          ∷ flag (codes "old-kernel")
           ∷ without_default (codes "key")
           ∷ without_default (codes "signature")
           ∷ flag (codes "signature-checked")
           ∷ flag (codes "prefix")
           ∷ without_default (codes "save")
           ∷ without_default (codes "resume")
+          ∷ flag (codes "hcrtm")
           ∷ flag (codes "explain")
           ∷ flag (codes "json")
           ∷ required (codes "LOG")
@@ -140,6 +148,7 @@ table parsers = (
     ∷ (
       codes "locate",
       without_default (codes "require")
+          ∷ flag (codes "hcrtm")
           ∷ flag (codes "explain")
           ∷ flag (codes "json")
           ∷ required (codes "LOG")
@@ -155,10 +164,12 @@ table parsers = (
           ∷ without_default (codes "nonce")
           ∷ without_default (codes "require")
           ∷ flag (codes "sha1")
+          ∷ flag (codes "old-kernel")
           ∷ without_default (codes "key")
           ∷ without_default (codes "signature")
           ∷ flag (codes "signature-checked")
           ∷ without_default (codes "before")
+          ∷ flag (codes "hcrtm")
           ∷ flag (codes "json")
           ∷ required (codes "LOG")
           ∷ [],
@@ -173,17 +184,21 @@ table parsers = (
           ∷ without_default (codes "nonce")
           ∷ without_default (codes "require")
           ∷ flag (codes "sha1")
+          ∷ flag (codes "old-kernel")
           ∷ without_default (codes "key")
           ∷ without_default (codes "signature")
           ∷ flag (codes "signature-checked")
+          ∷ flag (codes "hcrtm")
           ∷ flag (codes "json")
           ∷ required (codes "LOG")
           ∷ [],
     )
     ∷ (codes "show", flag (codes "json") ∷ required (codes "LIST") ∷ [])
-    ∷ (codes "registers", flag (codes "json") ∷ required (codes "LOG") ∷ [])
+    ∷ (codes "registers", flag (codes "hcrtm") ∷ flag (codes "json") ∷ required (codes "LOG") ∷ [])
     ∷ (codes "expected", without_default (codes "registers") ∷ flag (codes "json") ∷ required (codes "PCRREAD") ∷ [])
     ∷ (codes "key", flag (codes "endorsement") ∷ optional (codes "print") (codes "all") parsers.parts ∷ flag (codes "json") ∷ required (codes "FILE") ∷ [])
+    ∷ (codes "list", required (codes "FILE") ∷ [])
+    ∷ (codes "log", required (codes "FILE") ∷ [])
     ∷ (
       codes "measure",
       optional (codes "alg") (codes "sha256") parsers.algs
@@ -193,6 +208,7 @@ table parsers = (
           ∷ optional (codes "print") (codes "ascii") parsers.prints
           ∷ without_default (codes "files-from")
           ∷ beside (short_flag 48 (codes "null"))  -- (`-0`)
+          ∷ flag (codes "hcrtm")
           ∷ flag (codes "json")
           ∷ required (codes "LOG")
           ∷ repeated (codes "FILE")
@@ -227,6 +243,11 @@ abbrev pub IsFlag : {A : Type 0} → Text → List Row → A → A → A → Typ
 IsFlag id rows absent present it =
     ((first_of id rows ≡ Some (codes "true")) × (it ≡ present)) ⊎ ((first_of id rows ≡ Some (codes "false")) × (it ≡ absent))
 
+-- The matches name this log, and say whether the H-CRTM's event tells that PCR 0 began at 4.
+pub record HasLog (rows : List Row) (log : LogFile) : Type 0 where
+  pub name_is : IsGivenAs (codes "LOG") rows (Some log.name)
+  pub hcrtm_is : IsFlag (codes "hcrtm") rows false true log.hcrtm
+
 -- The first value of this name is a number in decimal.
 pub record HasNumber (id : Text) (rows : List Row) (number : ℕ) : Type 0 where
   pub text : Text
@@ -252,7 +273,7 @@ pub record HasMeasure (rows : List Row) (request : Measurement) : Type 0 where
   pub workers_is : HasNumber (codes "workers") rows request.workers
   pub limit_is : HasNumber (codes "limit") rows request.limit
   pub print_is : first_of (codes "print") rows ≡ Some (print_name request.print)
-  pub log_is : IsGivenAs (codes "LOG") rows (Some request.log)
+  pub log_is : HasLog rows request.log
   pub files_are : unwrap_or (all_of (codes "FILE") rows) [] ≡ map string_bytes request.files.items
   pub names_are : AreFurtherNames rows request.names
 
@@ -281,11 +302,12 @@ pub record HasQuoting (list : Text) (rows : List Row) (quote : String Global) (q
   pub nonce_is : HasBytes (codes "nonce") rows quoting.nonce.items
   pub required_is : IsGivenAs (codes "require") rows (Some quoting.required)
   pub takes_sha1_is : IsFlag (codes "sha1") rows false true quoting.takes_sha1
+  pub old_kernel_is : IsFlag (codes "old-kernel") rows false true quoting.old_kernel
   pub signing_is : IsSignedAs rows quoting.signing
 
 -- The matches have the options and names of this attestation.
 pub record HasAttestOptions (rows : List Row) (attest : AttestOptions) : Type 0 where
-  pub log_is : IsGivenAs (codes "LOG") rows (Some attest.log)
+  pub log_is : HasLog rows attest.log
   pub quote_is : IsGivenAs (codes "QUOTE") rows (Some attest.quoting.quote)
   pub quoting_is : HasQuoting (codes "LIST") rows attest.quoting.quote attest.quoting
   pub expected_is : IsGivenAs (codes "EXPECTED") rows attest.expected
@@ -326,6 +348,7 @@ pub record HasNoQuoting (rows : List Row) : Type 0 where
   pub nonce_is : IsGivenAs (codes "nonce") rows None
   pub required_is : IsGivenAs (codes "require") rows None
   pub takes_sha1_is : IsFlag (codes "sha1") rows false true false
+  pub old_kernel_is : IsFlag (codes "old-kernel") rows false true false
   pub signing_is : IsSignedAs rows NotChecked
 
 -- This tells which data is confirmed: of `--expected` and `--quote`, no more than one is present.
@@ -344,17 +367,24 @@ IsConfirmedBy rows (Quote quoting) =
 abbrev pub HasComparison : Text → List Row → ComparisonKind → Type 0
 HasComparison command rows (kinds.Verdict log scope resume save) =
     (command ≡ codes "verify")
-    × IsGivenAs (codes "LOG") rows (Some log)
+    × HasLog rows log
     × IsFlag (codes "prefix") rows Whole Prefix scope
     × IsGivenAs (codes "resume") rows resume
     × IsGivenAs (codes "save") rows save
-HasComparison command rows (kinds.Positions log) = (command ≡ codes "locate") × IsGivenAs (codes "LOG") rows (Some log)
+HasComparison command rows (kinds.Positions log) = (command ≡ codes "locate") × HasLog rows log
 HasComparison command rows kinds.ListVerdict = command ≡ codes "replay"
+
+-- An older kernel's boot aggregate is taken, or not: the flag says so, for a verdict on a log, and only beside a text of required registers.
+abbrev pub TakesOld : List Row → ComparisonKind → Option (String Global) → Bool → Type 0
+TakesOld rows (kinds.Verdict log scope resume save) (Some text) old_kernel = IsFlag (codes "old-kernel") rows false true old_kernel
+TakesOld rows (kinds.Verdict log scope resume save) None old_kernel =
+    IsFlag (codes "old-kernel") rows false true false × (old_kernel ≡ false)
+TakesOld rows kind required old_kernel = old_kernel ≡ false
 
 -- The command of this name asks this, and the matches have its options and names. `ListRegisters` requires that none of EXPECTED,
 -- `--require`, `--known` and `--explain` is present.
 abbrev pub HasQuery : Text → List Row → Query → Type 0
-HasQuery command rows (queries.LogRegisters log) = (command ≡ codes "registers") × IsGivenAs (codes "LOG") rows (Some log)
+HasQuery command rows (queries.LogRegisters log) = (command ≡ codes "registers") × HasLog rows log
 HasQuery command rows (queries.ListRegisters list) =
     (command ≡ codes "replay")
     × IsGivenAs (codes "LIST") rows (Some list)
@@ -368,32 +398,59 @@ HasQuery command rows (queries.Comparison judge) =
     × IsGivenAs (codes "EXPECTED") rows (Some judge.expected)
     × IsGivenAs (codes "require") rows judge.required
     × AreGivenAs (codes "known") rows judge.known
+    × TakesOld rows judge.kind judge.required judge.old_kernel
     × IsFlag (codes "explain") rows false true judge.explained
 HasQuery command rows (queries.Attestation attest) = (command ≡ codes "attest") × HasAttestOptions rows attest
 HasQuery command rows (queries.Expected printed registers) =
     (command ≡ codes "expected") × IsGivenAs (codes "PCRREAD") rows (Some printed) × IsGivenAs (codes "registers") rows registers
 HasQuery command rows (queries.Key area purpose part) = (command ≡ codes "key") × HasKey rows area purpose part
 
+-- This argument is standard input, where a command takes it.
+abbrev pub is_dash : String Global → Bool
+is_dash argument = bytes_eq (string_bytes argument) (codes "-")
+
+-- Log and expected registers are both standard input, which has one of them; and the log of an earlier boot is, which is in a file.
+abbrev pub reads_twice : LogFile → ConfirmedBy → Bool
+reads_twice log (Expected name) = is_dash log.name && is_dash name
+reads_twice log confirmed_by = false
+
+abbrev pub reads_earlier : Option (String Global) → Bool
+reads_earlier before = option_map_or is_dash before false
+
+-- The command that converts from this form.
+abbrev pub conversion_name : Conversion → Text
+conversion_name conversions.List = codes "list"
+conversion_name conversions.Log = codes "log"
+
 -- The command of this name does this, and the matches have its options and names.
 abbrev pub HasValues : Text → List Row → Task → Type 0
 HasValues command rows (tasks.Answer question) = HasQuery command rows question
 HasValues command rows (tasks.Measure request) = (command ≡ codes "measure") × HasMeasure rows request
 HasValues command rows (tasks.Events log shown confirmed_by) =
-    (command ≡ codes "events") × IsGivenAs (codes "LOG") rows (Some log) × IsDataShown rows shown × IsConfirmedBy rows confirmed_by
+    (command ≡ codes "events") × HasLog rows log × IsDataShown rows shown × IsConfirmedBy rows confirmed_by × (reads_twice log confirmed_by ≡ false)
 HasValues command rows (tasks.Boot log confirmed_by before) =
     (command ≡ codes "boot")
-    × IsGivenAs (codes "LOG") rows (Some log)
+    × HasLog rows log
     × IsConfirmedBy rows confirmed_by
     × IsGivenAs (codes "before") rows before
+    × (reads_twice log confirmed_by ≡ false)
+    × (reads_earlier before ≡ false)
+HasValues command rows (tasks.Convert input conversion) = (command ≡ conversion_name conversion) × IsGivenAs (codes "FILE") rows (Some input)
 HasValues command rows (tasks.Entries list) = (command ≡ codes "show") × IsGivenAs (codes "LIST") rows (Some list)
 HasValues command rows task = ⊥
 
--- The matches of the command of this name, which was found, have the options and names of the task. With `--json` the result is shown as
--- JSON, and without it as text.
+-- The command of this name shows its result in this form: with `--json` as JSON, and without it as text. A command that converts has no such
+-- flag.
+abbrev pub IsShownAs : Text → List Row → Form → Type 0
+IsShownAs command rows form =
+    IsFlag (codes "json") rows forms.Text forms.Json form
+    ⊎ (((command ≡ conversion_name conversions.List) ⊎ (command ≡ conversion_name conversions.Log)) × (form ≡ forms.Text))
+
+-- The matches of the command of this name, which was found, have the options and names of the task, and its form.
 pub record HasValuesIn (command : Text) (found : Option (Text × List Row)) (request : Task × Form) : Type 0 where
   pub rows : List Row
   pub rows_are : option_map (λ match. match.1) found ≡ Some rows
-  pub form_is : IsFlag (codes "json") rows forms.Text forms.Json request.1
+  pub form_is : IsShownAs command rows request.1
   pub values : HasValues command rows request.0
 
 -- ---- plans

@@ -5,7 +5,7 @@ ghost use Rattle.clap.specs.Values.{kind_of};
 ghost use Rattle.clap.specs.Words.{Text as Words, found_of, rows_of, subcommand_rows_of};
 ghost use Rattle.std.specs.Vec.Iter.{into_iter_items};
 ghost use Rattle.agent_plans.specs.Plans.{IsWithinRanges, IsWithin, NamesKnown, TakesKnown};
-ghost use Rattle.command_line.specs.Arguments.{BeginsWithVersion, HasHelpWord, HasComparison, HasQuery, HasValues, HasValuesIn, IsRequestedBy, IsHelp, IsPlanOrHelp, asks_help, asks_version};
+ghost use Rattle.command_line.specs.Arguments.{BeginsWithVersion, HasHelpWord, HasComparison, HasQuery, HasValues, HasValuesIn, IsRequestedBy, IsHelp, IsPlanOrHelp, IsShownAs, asks_help, asks_version};
 ghost use Rattle.std.specs.List.{list_any};
 ghost use Rattle.cells.specs.declared.writer.Form.TheVariants.{Text};
 ghost use Rattle.agent_plans.specs.declared.plan.Plan.TheVariants as plans;
@@ -14,11 +14,11 @@ ghost use Rattle.agent_plans.specs.declared.plan.Task.TheVariants.{Version};
 
 use crate::command_table::{KnownNames, all_commands};
 use crate::values::{
-    attest_of, boot_of, events_of, flag_of, key_of, known_of, measurement_of, name_of,
-    text_if_given,
+    attest_of, boot_of, conversion_of, events_of, flag_of, key_of, known_of, log_of,
+    measurement_of, name_of, old_kernel_of, text_if_given,
 };
 use agent_plans::{
-    ArgumentsFault, ComparisonKind, ComparisonOptions, Form, Plan, Query, Scope, Task,
+    ArgumentsFault, ComparisonKind, ComparisonOptions, Conversion, Form, Plan, Query, Scope, Task,
 };
 use clap::error::ErrorKind;
 use clap::{ArgMatches, Error};
@@ -36,6 +36,10 @@ const NO_JSON_OF_BYTES: &str =
 const KNOWN_WITHOUT_REQUIRED: &str =
     "error: the argument '--known <FILE>' cannot be used without '--require'\n";
 
+// What is wrong with `--old-kernel` there.
+const OLD_KERNEL_WITHOUT_REQUIRED: &str =
+    "error: the argument '--old-kernel' cannot be used without '--require'\n";
+
 // What is wrong with `--explain` beside `--data`, and beside `--json`.
 const EXPLAINED_AS_BYTES: &str = "error: the argument '--explain' cannot be used with '--data'\n";
 
@@ -51,6 +55,13 @@ const QUOTE_OF_NOTHING: &str =
 // What is wrong with `--expected` beside `--quote`.
 const EXPECTED_BESIDE_QUOTE: &str =
     "error: the argument '--expected <EXPECTED>' cannot be used with '--quote <QUOTE>'\n";
+
+// What is wrong with `-` twice, and as the log of an earlier boot.
+const STANDARD_INPUT_TWICE: &str =
+    "error: the argument '--expected <EXPECTED>' cannot be '-' if '<LOG>' is\n";
+
+const STANDARD_INPUT_EARLIER: &str =
+    "error: invalid value '-' for '--before <OLD_LOG>': it is no file\n";
 
 // What is wrong with `--quote` without what is asked of a quote.
 const QUOTE_WITHOUT_LIST: &str =
@@ -73,6 +84,9 @@ const REQUIRED_WITHOUT_QUOTE: &str =
     "error: the argument '--require <SELECTION>' cannot be used without '--quote'\n";
 
 const SHA1_WITHOUT_QUOTE: &str = "error: the argument '--sha1' cannot be used without '--quote'\n";
+
+const OLD_KERNEL_WITHOUT_QUOTE: &str =
+    "error: the argument '--old-kernel' cannot be used without '--quote'\n";
 
 const KEY_WITHOUT_QUOTE: &str =
     "error: the argument '--key <KEY>' cannot be used without '--quote'\n";
@@ -162,29 +176,35 @@ fn nonce_in<'a>(matches: &ArgMatches<'a>) -> Option<&'a str> {
     None
 }
 
-// What is wrong with options that do not go together, and which `clap` takes.
+// What is wrong with options or names that do not go together, and which `clap` takes.
 fn wrong_pair(matches: &ArgMatches) -> Option<&'static str> {
     if let Some(matches) = matches.subcommand_matches("measure") {
         return wrong_pair_of_measure(matches);
     }
     if let Some(matches) = matches.subcommand_matches("events") {
-        return wrong_pair_of_events(matches);
+        return wrong_pair_of_events(matches).or(wrong_standard_input(matches));
     }
     if let Some(matches) = matches.subcommand_matches("boot") {
-        return wrong_pair_of_quote(matches);
+        return wrong_pair_of_quote(matches).or(wrong_standard_input(matches));
     }
     if let Some(matches) = matches.subcommand_matches("attest") {
         return wrong_pair_of_signing(matches);
     }
-    let matches = match matches.subcommand_matches("verify") {
-        Some(matches) => matches,
-        None => matches.subcommand_matches("replay")?,
-    };
-    wrong_pair_of_verdict(matches)
+    if let Some(matches) = matches.subcommand_matches("verify") {
+        return wrong_pair_of_known(matches).or(wrong_pair_of_old_kernel(matches));
+    }
+    wrong_pair_of_known(matches.subcommand_matches("replay")?)
+}
+
+// Whether an older kernel's boot aggregate is to be taken where no registers are required.
+fn wrong_pair_of_old_kernel(matches: &ArgMatches) -> Option<&'static str> {
+    (is_set(matches, "old-kernel") && !matches.contains_id("require")).then_some(
+        OLD_KERNEL_WITHOUT_REQUIRED,
+    )
 }
 
 // Whether known files are named where no registers are required.
-fn wrong_pair_of_verdict(matches: &ArgMatches) -> Option<&'static str> {
+fn wrong_pair_of_known(matches: &ArgMatches) -> Option<&'static str> {
     (matches.contains_id("known") && !matches.contains_id("require")).then_some(
         KNOWN_WITHOUT_REQUIRED,
     )
@@ -213,6 +233,17 @@ fn wrong_pair_of_events(matches: &ArgMatches) -> Option<&'static str> {
         Some(QUOTE_OF_NOTHING)
     } else {
         without_quote(matches)
+    }
+}
+
+// Whether log and expected registers are both standard input, or the log of an earlier boot is.
+fn wrong_standard_input(matches: &ArgMatches) -> Option<&'static str> {
+    if is_dash(matches, "LOG") && is_dash(matches, "expected") {
+        Some(STANDARD_INPUT_TWICE)
+    } else if is_dash(matches, "before") {
+        Some(STANDARD_INPUT_EARLIER)
+    } else {
+        None
     }
 }
 
@@ -254,6 +285,8 @@ fn without_quote(matches: &ArgMatches) -> Option<&'static str> {
         Some(REQUIRED_WITHOUT_QUOTE)
     } else if is_set(matches, "sha1") {
         Some(SHA1_WITHOUT_QUOTE)
+    } else if is_set(matches, "old-kernel") {
+        Some(OLD_KERNEL_WITHOUT_QUOTE)
     } else if matches.contains_id("key") {
         Some(KEY_WITHOUT_QUOTE)
     } else if matches.contains_id("signature") {
@@ -263,6 +296,11 @@ fn without_quote(matches: &ArgMatches) -> Option<&'static str> {
     } else {
         None
     }
+}
+
+// Whether this argument is standard input.
+fn is_dash(matches: &ArgMatches, id: &str) -> bool {
+    matches.get_str(id) == Some("-")
 }
 
 // Whether this flag is present.
@@ -310,8 +348,19 @@ fn requested_of(
     let Some(matches) = matches.subcommand_matches(command) else {
         return Err(ArgumentsFault::Usage);
     };
-    let form = flag_of(matches, "json", Form::Text, Form::Json)?;
+    let form = form_of(command, matches)?;
     Ok((task_of(alloc, command, matches, form)?, form))
+}
+
+// The form in which the command of this name shows its result. A command that converts has no `--json`.
+fn form_of(command: &str, matches: &ArgMatches) -> Result<Form, ArgumentsFault>
+    ensures { IfOk result (IsShownAs command.now (rows_of (found_of matches.now))) }
+{
+    match command {
+        "list" => Ok(Form::Text),
+        "log" => Ok(Form::Text),
+        _ => flag_of(matches, "json", Form::Text, Form::Json),
+    }
 }
 
 // The task of the command of this name, whose result is shown in this form.
@@ -327,6 +376,8 @@ fn task_of(
         "measure" => Ok(Task::Measure(measurement_of(alloc, matches, form)?)),
         "events" => events_of(alloc, matches, form),
         "boot" => boot_of(alloc, matches),
+        "list" => conversion_of(alloc, matches, Conversion::List, form),
+        "log" => conversion_of(alloc, matches, Conversion::Log, form),
         "show" => Ok(Task::Entries {
             list: name_of(alloc, matches, "LIST")?,
         }),
@@ -342,7 +393,7 @@ fn question_of(alloc: Global, command: &str, matches: &ArgMatches) -> Result<Que
     match command {
         "verify" => {
             let kind = ComparisonKind::Verdict {
-                log: name_of(alloc, matches, "LOG")?,
+                log: log_of(alloc, matches)?,
                 scope: flag_of(matches, "prefix", Scope::Whole, Scope::Prefix)?,
                 resume: text_if_given(alloc, matches, "resume")?,
                 save: text_if_given(alloc, matches, "save")?,
@@ -350,7 +401,7 @@ fn question_of(alloc: Global, command: &str, matches: &ArgMatches) -> Result<Que
             Ok(Query::Comparison(comparison_of(alloc, matches, kind)?))
         }
         "locate" => {
-            let log = name_of(alloc, matches, "LOG")?;
+            let log = log_of(alloc, matches)?;
             Ok(Query::Comparison(comparison_of(alloc, matches, ComparisonKind::Positions { log })?))
         }
         "expected" => Ok(Query::Expected {
@@ -359,7 +410,7 @@ fn question_of(alloc: Global, command: &str, matches: &ArgMatches) -> Result<Que
         }),
         "key" => key_of(alloc, matches),
         "registers" => Ok(Query::LogRegisters {
-            log: name_of(alloc, matches, "LOG")?,
+            log: log_of(alloc, matches)?,
         }),
         "replay" => replay_of(alloc, matches),
         "attest" => Ok(Query::Attestation(attest_of(alloc, matches)?)),
@@ -382,6 +433,7 @@ fn comparison_of(
         list: name_of(alloc, matches, "LIST")?,
         expected: name_of(alloc, matches, "EXPECTED")?,
         known: known_of(alloc, matches, &kind, &required)?,
+        old_kernel: old_kernel_of(matches, &kind, &required)?,
         kind,
         required,
         explained: flag_of(matches, "explain", false, true)?,
@@ -406,6 +458,7 @@ fn replay_of(alloc: Global, matches: &ArgMatches) -> Result<Query, ArgumentsFaul
             expected,
             required,
             known,
+            old_kernel: false,
             explained,
         })),
         (None, None, None, false) => Ok(Query::ListRegisters { list }),

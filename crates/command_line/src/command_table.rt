@@ -90,6 +90,9 @@ const LOG: ArgumentRow<'static> = row!("LOG"; ArgumentForm::Required);
 /// A measurement list.
 const LIST: ArgumentRow<'static> = row!("LIST"; ArgumentForm::Required);
 
+/// A file of another form.
+const FILE: ArgumentRow<'static> = row!("FILE"; ArgumentForm::Required);
+
 /// Expected registers.
 const EXPECTED: ArgumentRow<'static> = row!("EXPECTED"; ArgumentForm::Required);
 
@@ -108,6 +111,9 @@ const NONCE: ArgumentRow<'static> = row!("nonce"; ArgumentForm::Optional("HEX"))
 
 /// Whether registers of the SHA-1 bank alone are taken.
 const SHA1: ArgumentRow<'static> = row!("sha1"; ArgumentForm::Flag);
+
+/// Whether the boot aggregate of an older kernel is taken.
+const OLD_KERNEL: ArgumentRow<'static> = row!("old-kernel"; ArgumentForm::Flag);
 
 /// The key that signed the quote, and its signature.
 const KEY: ArgumentRow<'static> = row!("key"; ArgumentForm::Optional("KEY"));
@@ -135,16 +141,20 @@ const RESUME: ArgumentRow<'static> = row!("resume"; ArgumentForm::Optional("FILE
 /// Whether standard error says what to do next even if it is no terminal.
 const EXPLAIN: ArgumentRow<'static> = row!("explain"; ArgumentForm::Flag);
 
+/// Whether the H-CRTM's event tells where the machine started.
+const HCRTM: ArgumentRow<'static> = row!("hcrtm"; ArgumentForm::Flag);
+
 /// Whether the result is printed as JSON.
 const JSON: ArgumentRow<'static> = row!("json"; ArgumentForm::Flag);
 
 // The commands, in the order of the help. `table` of specs/Arguments.antt has the same.
-static COMMANDS: [CommandRow; 11] = [
+static COMMANDS: [CommandRow; 13] = [
     CommandRow {
         name: "verify",
         about: with_abouts!(; verify),
         arguments: &[
-            REQUIRE, KNOWN, PREFIX, SAVE, RESUME, EXPLAIN, JSON, LOG, LIST, EXPECTED,
+            REQUIRE, OLD_KERNEL, KNOWN, PREFIX, SAVE, RESUME, HCRTM, EXPLAIN, JSON, LOG, LIST,
+            EXPECTED,
         ],
     },
     CommandRow {
@@ -155,12 +165,14 @@ static COMMANDS: [CommandRow; 11] = [
             row!("require"; ArgumentForm::RequiredOption("SELECTION")),
             KNOWN,
             SHA1,
+            OLD_KERNEL,
             KEY,
             SIGNATURE,
             SIGNATURE_CHECKED,
             PREFIX,
             SAVE,
             RESUME,
+            HCRTM,
             EXPLAIN,
             JSON,
             LOG,
@@ -184,7 +196,7 @@ static COMMANDS: [CommandRow; 11] = [
     CommandRow {
         name: "locate",
         about: with_abouts!(; locate),
-        arguments: &[REQUIRE, EXPLAIN, JSON, LOG, LIST, EXPECTED],
+        arguments: &[REQUIRE, HCRTM, EXPLAIN, JSON, LOG, LIST, EXPECTED],
     },
     CommandRow {
         name: "boot",
@@ -196,10 +208,12 @@ static COMMANDS: [CommandRow; 11] = [
             NONCE,
             REQUIRE,
             SHA1,
+            OLD_KERNEL,
             KEY,
             SIGNATURE,
             SIGNATURE_CHECKED,
             row!("before"; ArgumentForm::Optional("OLD_LOG")),
+            HCRTM,
             JSON,
             LOG,
         ],
@@ -216,9 +230,11 @@ static COMMANDS: [CommandRow; 11] = [
             NONCE,
             REQUIRE,
             SHA1,
+            OLD_KERNEL,
             KEY,
             SIGNATURE,
             SIGNATURE_CHECKED,
+            HCRTM,
             JSON,
             LOG,
         ],
@@ -231,7 +247,7 @@ static COMMANDS: [CommandRow; 11] = [
     CommandRow {
         name: "registers",
         about: with_abouts!(; registers),
-        arguments: &[JSON, LOG],
+        arguments: &[HCRTM, JSON, LOG],
     },
     CommandRow {
         name: "expected",
@@ -249,8 +265,18 @@ static COMMANDS: [CommandRow; 11] = [
             row!("endorsement"; ArgumentForm::Flag),
             row!("print"; ArgumentForm::Defaulted("PART", "all", Values::Parsed(ValueParser::Names(&["all", "name", "pem"])))),
             JSON,
-            row!("FILE"; ArgumentForm::Required),
+            FILE,
         ],
+    },
+    CommandRow {
+        name: "list",
+        about: with_abouts!(; list),
+        arguments: &[FILE],
+    },
+    CommandRow {
+        name: "log",
+        about: with_abouts!(; log),
+        arguments: &[FILE],
     },
     CommandRow {
         name: "measure",
@@ -263,6 +289,7 @@ static COMMANDS: [CommandRow; 11] = [
             row!("print"; ArgumentForm::Defaulted("OUTPUT", "ascii", Values::Parsed(ValueParser::Names(&["ascii", "binary", "registers"])))),
             row!("files-from"; ArgumentForm::Optional("NAMES")),
             row!("null"; ArgumentForm::ShortFlagBeside('0', "files-from")),
+            HCRTM,
             JSON,
             LOG,
             row!("FILE"; ArgumentForm::Repeated),

@@ -35,6 +35,12 @@ macro_rules! with_abouts {
     ($($begun:literal)*; key $($more:tt)*) => {
         with_abouts!($($begun)* "Prints name and PEM of a TPM's key, if the key is restricted"; $($more)*)
     };
+    ($($begun:literal)*; list $($more:tt)*) => {
+        with_abouts!($($begun)* "Prints the binary list of which a file is the kernel's text"; $($more)*)
+    };
+    ($($begun:literal)*; log $($more:tt)*) => {
+        with_abouts!($($begun)* "Prints a log in the SHA-1 form, or with padding, as the crypto-agile log"; $($more)*)
+    };
     ($($begun:literal)*; measure $($more:tt)*) => {
         with_abouts!($($begun)* "Measures files as IMA does, from the PCRs of a log, without a TPM"; $($more)*)
     };
@@ -51,8 +57,7 @@ pub(crate) const PROGRAM_USAGE: &str = "ima-agent [COMMAND]";
 /// The help of the program.
 pub(crate) const PROGRAM_HELP: &str = with_abouts!(;
     "\
-Checks whether a firmware event log and an IMA measurement list make the values that
-a TPM's PCRs have.
+Checks whether a firmware log and an IMA list make the values that a TPM's PCRs have.
 
 Usage: ima-agent [COMMAND]
 
@@ -74,6 +79,8 @@ Commands that read:
     "
 Commands that prepare:
 "
+    "  list       " list "\n"
+    "  log        " log "\n"
     "  measure    " measure "\n"
     "
 Options:
@@ -83,8 +90,7 @@ Options:
 A log is a copy of /sys/kernel/security/tpm0/binary_bios_measurements, a list of
 /sys/kernel/security/ima/binary_runtime_measurements. An input has at most 64 MiB.
 
-Without a command: reads a log in hexadecimal from standard input, and prints the
-PCRs that it changes.
+Without a command: prints the PCRs of a log in hexadecimal, on standard input.
 
 Exit status:
   0  all is printed; a verdict is `match`
@@ -177,6 +183,16 @@ fn help_end_of_other<'a>(command: &str) -> &'a str {
             0 "all is printed";
             "expected"
         ),
+        "list" => help_end!(
+            "ima-agent list ascii_runtime_measurements > ima.list";
+            0 "all is printed";
+            "text list"
+        ),
+        "log" => help_end!(
+            "ima-agent log binary_bios_measurements > firmware.log";
+            0 "all is printed; standard error says how much padding was cut";
+            "log form"
+        ),
         "key" => help_end!("ima-agent key --print pem ak.pub > ak.pem"; 0 "all is printed"; "key"),
         _ => help_end!(
             "ima-agent measure --print registers firmware.log /bin/sh /bin/ls";
@@ -202,15 +218,17 @@ Parts, with a comma or plus between: [BANK:]A,
 /// The help of the argument of this name, of the command of this name.
 pub(crate) fn help_of<'a>(command: &str, id: &str) -> &'a str {
     match id {
-        "LOG" => "Firmware event log, binary",
+        "LOG" => help_of_log(command),
         "LIST" => "Measurement list, binary",
         "EXPECTED" => help_of_expected(command),
         "require" => help_of_require(command),
         "known" => help_of_known(command),
+        "hcrtm" => "An H-CRTM event of LOG tells that PCR 0 began at 4",
         "explain" => help_of_explain(command),
         "json" => help_of_json(command),
         "nonce" => "The quote's nonce, in hexadecimal, 16 bytes or more",
         "sha1" => "Accept PCRs in the SHA-1 bank alone: SHA-1 has collisions",
+        "old-kernel" => help_of_old_kernel(command),
         "key" => "The machine's key: public area, or PEM of `ima-agent key`",
         "signature" => "Its signature of QUOTE, as `tpm2_quote -s` writes it",
         "signature-checked" => "Without these: you have verified the signature yourself",
@@ -218,8 +236,30 @@ pub(crate) fn help_of<'a>(command: &str, id: &str) -> &'a str {
             "verify" | "attest" => help_of_verdict(command, id),
             "measure" => help_of_measure(id),
             "events" | "boot" => help_of_events(id),
+            "list" | "log" => help_of_form(command),
             _ => help_of_other(id),
         },
+    }
+}
+
+// The help of LOG.
+fn help_of_log<'a>(command: &str) -> &'a str {
+    match command {
+        "events" | "boot" => "Firmware event log, binary, or - for standard input",
+        _ => "Firmware event log, binary",
+    }
+}
+
+// The help of FILE that is converted.
+fn help_of_form<'a>(command: &str) -> &'a str {
+    match command {
+        "list" => "\
+The kernel's ascii_runtime_measurements, or - for standard
+input",
+        _ => "\
+Firmware event log in the SHA-1 form of TPM 1.2, or with
+padding behind its last event, or - for standard input.
+SHA-1 alone stops nobody who can make collisions",
     }
 }
 
@@ -235,9 +275,9 @@ fn help_of_expected<'a>(command: &str) -> &'a str {
 // The help of --require.
 fn help_of_require<'a>(command: &str) -> &'a str {
     match command {
-        "attest" | "events" | "boot" => selection_help!(
-            "PCRs that must be quoted, 0 to 10 at least: sha256:0-10.\n"
-        ),
+        "attest" | "events" | "boot" => "\
+PCRs that must be quoted, 0 to 10 at least: sha256:0-10.
+Parts, by comma or plus: [BANK:]A, [BANK:]A-B, [BANK:]all",
         "replay" => selection_help!(
             "\
 PCRs that EXPECTED must have, 10 among them, such as
@@ -256,9 +296,7 @@ sha256:0-10 or sha256:0-7,10+sha1:10.
 // The help of --known.
 fn help_of_known<'a>(command: &str) -> &'a str {
     match command {
-        "attest" => "\
-Each new entry must be of a file whose digest FILE has,
-as sha256sum prints it. May be given several times",
+        "attest" => "Each new entry must be in FILE, of sha256sum; several times",
         _ => "\
 Each new entry must be of a file whose digest FILE has,
 as sha256sum prints it. May be given several times; only
@@ -353,9 +391,21 @@ Only these PCRs, such as 0-10 or sha256:0-7,10+sha1:10.
         ),
         "PCRREAD" => "\
 What tpm2_pcrread or tpm2_checkquote printed, which does
-not show that a quote is valid",
+not show that a quote is valid, or - for standard input",
         "endorsement" => "Take an endorsement key, which signs nothing",
         "print" => "Name, type, scheme and PEM; or only one of name and PEM\n",
-        _ => "Public area, as `tpm2_createak -u` or `tpm2_readpublic -o` writes it",
+        _ => "\
+Public area, as `tpm2_createak -u` writes it, or without
+its size, or - for standard input",
+    }
+}
+
+// The help of `--old-kernel`.
+fn help_of_old_kernel<'a>(command: &str) -> &'a str {
+    match command {
+        "verify" => "\
+Boot aggregate over PCRs 0 to 7, as before Linux 5.8;
+only with --require",
+        _ => "Boot aggregate over PCRs 0 to 7, as before Linux 5.8",
     }
 }

@@ -1,14 +1,14 @@
 //! The values of arguments, from clap's matches.
 
-ghost use Rattle.std.specs.Prelude.{◌≡◌, ◌<◌, ◌≤◌, ◌^◌, [], Some, codes, map, string_bytes, unwrap_or, vec_len, IfOk};
+ghost use Rattle.std.specs.Prelude.{◌≡◌, ◌<◌, ◌≤◌, ◌^◌, [], false, true, Some, codes, map, string_bytes, unwrap_or, vec_len, IfOk};
 ghost use Rattle.clap.specs.Words.{all_of, first_of, found_of, rows_of};
 ghost use Rattle.agent_plans.specs.Plans.{HasForm, IsWithin, IsWithinLimits, TakesKnown};
-ghost use Rattle.command_line.specs.Arguments.{AreFurtherNames, AreGivenAs, HasAttestOptions, HasBytes, HasMeasure, HasNoQuoting, HasNumber, HasQuery, HasQuoting, HasValues, IsConfirmedBy, IsDataShown, IsFlag, IsGivenAs, IsSignedAs, part_name, print_name};
+ghost use Rattle.command_line.specs.Arguments.{AreFurtherNames, AreGivenAs, HasAttestOptions, HasBytes, HasLog, HasMeasure, HasNoQuoting, HasNumber, HasQuery, HasQuoting, HasValues, IsConfirmedBy, IsDataShown, IsFlag, IsGivenAs, IsSignedAs, TakesOld, conversion_name, is_dash, part_name, print_name, reads_earlier, reads_twice};
 
 use crate::command_table::{MOST_RECORDS, MOST_WORKERS};
 use agent_plans::{
-    ArgumentsFault, AttestOptions, ComparisonKind, ConfirmedBy, DataShown, Form, Measurement,
-    NameEnd, Names, Print, Query, Quoting, Scope, SigningOptions, Task,
+    ArgumentsFault, AttestOptions, ComparisonKind, ConfirmedBy, Conversion, DataShown, Form,
+    LogFile, Measurement, NameEnd, Names, Print, Query, Quoting, Scope, SigningOptions, Task,
 };
 use clap::ArgMatches;
 use hex::FromHexError;
@@ -34,13 +34,14 @@ pub(crate) fn measurement_of(
         workers: number_of(matches, "workers", MOST_WORKERS)? as usize,
         limit: number_of(matches, "limit", MOST_RECORDS)? as u32,
         print: print_of(matches, form)?,
-        log: name_of(alloc, matches, "LOG")?,
+        log: log_of(alloc, matches)?,
         files: files_of(alloc, matches)?,
         names: further_names_of(alloc, matches)?,
     })
 }
 
-/// What `events` shows in this form. Refuses `--explain` with JSON, and `--expected` and `--quote` where what data says is not shown.
+/// What `events` shows in this form. Refuses `--explain` with JSON, `--expected` and `--quote` where what data says is not shown, and standard
+/// input for both log and expected registers.
 pub(crate) fn events_of(
     alloc: Global,
     matches: &ArgMatches,
@@ -49,9 +50,12 @@ pub(crate) fn events_of(
     ensures values { IfOk result (HasValues (codes "events") (rows_of (found_of matches.now))) }
     ensures within { IfOk result (IsWithin form) }
 {
-    let log = name_of(alloc, matches, "LOG")?;
+    let log = log_of(alloc, matches)?;
     let data = data_of(matches)?;
     let confirmed_by = confirmed_by_of(alloc, matches)?;
+    if reads_twice(&log, &confirmed_by) {
+        return Err(ArgumentsFault::Usage);
+    }
     match (form, data, &confirmed_by) {
         (Form::Json, DataShown::Size | DataShown::Bytes, _)
         | (Form::Text, DataShown::Meaning, _)
@@ -64,16 +68,68 @@ pub(crate) fn events_of(
     }
 }
 
-/// What `boot` asks.
+/// What `boot` asks. Refuses standard input for both log and expected registers, and for the log of an earlier boot.
 pub(crate) fn boot_of(alloc: Global, matches: &ArgMatches) -> Result<Task, ArgumentsFault>
     ensures values { IfOk result (HasValues (codes "boot") (rows_of (found_of matches.now))) }
     ensures within { (form : Form) → IfOk result (IsWithin form) }
 {
+    let log = log_of(alloc, matches)?;
+    let confirmed_by = confirmed_by_of(alloc, matches)?;
+    let before = text_if_given(alloc, matches, "before")?;
+    if reads_twice(&log, &confirmed_by) || reads_earlier(&before) {
+        return Err(ArgumentsFault::Usage);
+    }
     Ok(Task::Boot {
-        log: name_of(alloc, matches, "LOG")?,
-        confirmed_by: confirmed_by_of(alloc, matches)?,
-        before: text_if_given(alloc, matches, "before")?,
+        log,
+        confirmed_by,
+        before,
     })
+}
+
+// Whether log and expected registers are both standard input.
+fn reads_twice(log: &LogFile, confirmed_by: &ConfirmedBy) -> bool
+    ensures { result ≡ reads_twice log.now confirmed_by.now }
+{
+    match confirmed_by {
+        ConfirmedBy::Expected(name) => is_dash(&log.name) && is_dash(name),
+        ConfirmedBy::Nothing | ConfirmedBy::Quote(_) => false,
+    }
+}
+
+// Whether the log of an earlier boot is standard input.
+fn reads_earlier(before: &Option<String>) -> bool
+    ensures { result ≡ reads_earlier before.now }
+{
+    match before {
+        None => false,
+        Some(name) => is_dash(name),
+    }
+}
+
+// Whether this argument is standard input, where a command takes it.
+fn is_dash(argument: &String) -> bool
+    ensures { result ≡ is_dash argument.now }
+{
+    argument.as_str() == "-"
+}
+
+/// The file that is converted from this form. There is no JSON of it.
+pub(crate) fn conversion_of(
+    alloc: Global,
+    matches: &ArgMatches,
+    conversion: Conversion,
+    form: Form,
+) -> Result<Task, ArgumentsFault>
+    ensures values { IfOk result (HasValues (conversion_name conversion) (rows_of (found_of matches.now))) }
+    ensures within { IfOk result (IsWithin form) }
+{
+    match form {
+        Form::Text => Ok(Task::Convert {
+            input: name_of(alloc, matches, "FILE")?,
+            conversion,
+        }),
+        Form::Json => Err(ArgumentsFault::Usage),
+    }
 }
 
 // What tells which data is confirmed. Refuses `--quote` beside `--expected`, and what is of a quote without one.
@@ -110,6 +166,7 @@ fn quoting_of(
         nonce: bytes_of(alloc, matches, "nonce")?,
         required: name_of(alloc, matches, "require")?,
         takes_sha1: flag_of(matches, "sha1", false, true)?,
+        old_kernel: flag_of(matches, "old-kernel", false, true)?,
         signing: signing_of(alloc, matches)?,
     })
 }
@@ -136,10 +193,23 @@ fn has_no_quoting(alloc: Global, matches: &ArgMatches) -> Result<(), ArgumentsFa
     let list = text_if_given(alloc, matches, "list")?;
     let nonce = text_if_given(alloc, matches, "nonce")?;
     let required = text_if_given(alloc, matches, "require")?;
-    let takes_sha1 = flag_of(matches, "sha1", false, true)?;
+    has_no_quoting_flags(matches)?;
     let signing = signing_of(alloc, matches)?;
-    match (list, nonce, required, takes_sha1, signing) {
-        (None, None, None, false, SigningOptions::NotChecked) => Ok(()),
+    match (list, nonce, required, signing) {
+        (None, None, None, SigningOptions::NotChecked) => Ok(()),
+        _ => Err(ArgumentsFault::Usage),
+    }
+}
+
+// Refuses the flags that are of a quote, beside that which tells of its signature.
+fn has_no_quoting_flags(matches: &ArgMatches) -> Result<(), ArgumentsFault>
+    ensures sha1 { IfOk result (λ _. IsFlag (codes "sha1") (rows_of (found_of matches.now)) false true false) }
+    ensures old_kernel { IfOk result (λ _. IsFlag (codes "old-kernel") (rows_of (found_of matches.now)) false true false) }
+{
+    let takes_sha1 = flag_of(matches, "sha1", false, true)?;
+    let old_kernel = flag_of(matches, "old-kernel", false, true)?;
+    match (takes_sha1, old_kernel) {
+        (false, false) => Ok(()),
         _ => Err(ArgumentsFault::Usage),
     }
 }
@@ -167,7 +237,7 @@ pub(crate) fn attest_of(
 {
     let quote = name_of(alloc, matches, "QUOTE")?;
     Ok(AttestOptions {
-        log: name_of(alloc, matches, "LOG")?,
+        log: log_of(alloc, matches)?,
         quoting: quoting_of(alloc, matches, quote, "LIST")?,
         expected: text_if_given(alloc, matches, "EXPECTED")?,
         known: names_if_given(alloc, matches, "known")?,
@@ -283,6 +353,28 @@ pub(crate) fn known_of(
     }
 }
 
+/// Whether an older kernel's boot aggregate is taken in this comparison, where this text is required. Refuses `--old-kernel` without
+/// `--require`.
+pub(crate) fn old_kernel_of(
+    matches: &ArgMatches,
+    kind: &ComparisonKind,
+    required: &Option<String>,
+) -> Result<bool, ArgumentsFault>
+    ensures { IfOk result (TakesOld (rows_of (found_of matches.now)) kind.now required.now) }
+{
+    match kind {
+        ComparisonKind::Verdict { .. } => {
+            let old_kernel = flag_of(matches, "old-kernel", false, true)?;
+            match (required, old_kernel) {
+                (None, true) => Err(ArgumentsFault::Usage),
+                (None, false) => Ok(false),
+                (Some(_), old_kernel) => Ok(old_kernel),
+            }
+        }
+        ComparisonKind::Positions { .. } | ComparisonKind::ListVerdict => Ok(false),
+    }
+}
+
 // Copies of the values of this argument, if it is present.
 fn names_if_given(
     alloc: Global,
@@ -329,6 +421,16 @@ fn text_of<'a>(matches: &ArgMatches<'a>, id: &str) -> Result<&'a str, ArgumentsF
     ensures { IfOk result (λ text. first_of id.now (rows_of (found_of matches.now)) ≡ Some text.now) }
 {
     matches.get_str(id).ok_or(ArgumentsFault::Usage)
+}
+
+/// The log that is named, and whether the H-CRTM's event tells where the machine started.
+pub(crate) fn log_of(alloc: Global, matches: &ArgMatches) -> Result<LogFile, ArgumentsFault>
+    ensures { IfOk result (HasLog (rows_of (found_of matches.now))) }
+{
+    Ok(LogFile {
+        name: name_of(alloc, matches, "LOG")?,
+        hcrtm: flag_of(matches, "hcrtm", false, true)?,
+    })
 }
 
 /// A copy of the first value of this argument.

@@ -10,13 +10,14 @@ use Rattle.measured_data.specs.declared.confirmed.Pcr.{Pcr}
 use Rattle.pcr_banks.specs.declared.alg.Alg.{Alg}
 use Rattle.pcr_banks.specs.Names.{register_count}
 use Rattle.pcr_values.specs.declared.expected.Expected.{Expected}
+use Rattle.pcr_values.specs.declared.selection.BankRange.{BankRange}
 use Rattle.pcr_values.specs.ExpectedTexts.{Spells}
 use Rattle.pcr_values.specs.Names.{IsExpectedText, SayAll, lines_of}
 use Rattle.tpm_quotes.specs.Spelling.{BankSelection}
-use Rattle.confirming.specs.Matching.{AreMatched, ByExpected, ByNothing, ByQuote, Confirmation, is_of_log, place_of, places_by, places_in, quoted_places}
+use Rattle.confirming.specs.Matching.{AreMatched, ByExpected, ByNothing, ByQuote, Confirmation, is_confirmed, place_at, place_of, places_by, places_in, quoted_places}
 use Rattle.confirming.specs.Places.{AllExist, SpellsPlaces, matching_text}
 use Rattle.confirming.proofs.PlaceLaws.{written_spells}
-use Rattle.confirming.proofs.QuotedLaws.{all_below, below, place_at}
+use Rattle.confirming.proofs.QuotedLaws.{all_below}
 
 -- ---- some of them, and several lists of them
 
@@ -38,26 +39,27 @@ numbered : (alg : Alg) (first count : ℕ) → first + count ≤ register_count
 numbered alg first zero within = tt
 numbered alg first (suc count) within = (omega (arith, within), numbered alg (first + 1) count (omega (arith, within)))
 
-of_bank : (selection : BankSelection) → AllExist (places_in selection)
-of_bank selection =
-    subst AllExist (sym (all_below selection))
-    (kept (λ (place : Pcr). is_of_log selection.bits place.register) (map (place_at selection.alg) (range_with_len 0 24))
+of_bank : (required : List BankRange) (selection : BankSelection) → AllExist (places_in required selection)
+of_bank required selection =
+    subst AllExist (sym (all_below required selection))
+    (kept (is_confirmed required selection.bits) (map (place_at selection.alg) (range_with_len 0 24))
     (numbered selection.alg 0 24 (omega arith)))
 
-of_banks : (selections : List BankSelection) → AllExist (quoted_places selections)
-of_banks [] = tt
-of_banks (selection ∷ selections) = both (places_in selection) (quoted_places selections) (of_bank selection) (of_banks selections)
+of_banks : (required : List BankRange) (selections : List BankSelection) → AllExist (quoted_places required selections)
+of_banks required [] = tt
+of_banks required (selection ∷ selections) =
+    both (places_in required selection) (quoted_places required selections) (of_bank required selection) (of_banks required selections)
 
-of_answer : (success : Bool) (answer : Answer) → AllExist (places_by success answer)
-of_answer true (answers.Attestation report) = of_banks (stated_of report.quoted).selections
-of_answer true (answers.Report report) = tt
-of_answer true (answers.Prefix prefix) = tt
-of_answer true (answers.Positions positions) = tt
-of_answer true (answers.ListReport report) = tt
-of_answer true (answers.Registers registers) = tt
-of_answer true (answers.Expected expected) = tt
-of_answer true (answers.Key report part) = tt
-of_answer false answer = tt
+of_answer : (required : List BankRange) (success : Bool) (answer : Answer) → AllExist (places_by required success answer)
+of_answer required true (answers.Attestation report) = of_banks required (stated_of report.quoted).selections
+of_answer required true (answers.Report report) = tt
+of_answer required true (answers.Prefix prefix) = tt
+of_answer required true (answers.Positions positions) = tt
+of_answer required true (answers.ListReport report) = tt
+of_answer required true (answers.Registers registers) = tt
+of_answer required true (answers.Expected expected) = tt
+of_answer required true (answers.Key report part) = tt
+of_answer required false answer = tt
 
 -- ---- by expected registers
 
@@ -84,7 +86,8 @@ pub matched_exist : (inputs : Inputs) (confirmation : Confirmation) (log : List 
 matched_exist inputs ByNothing log places status (none, done) = absurd cc
 matched_exist inputs (ByExpected place) log places status ((text, held, match), done) =
     rw match.places_are (of_rows _ match.expected (of_lines (lines_of text) match.text_is.end match.expected match.text_is.stated.say))
-matched_exist inputs (ByQuote asked) log places status (given, is, same, done) = rw same (of_answer given.is_success given.answer)
+matched_exist inputs (ByQuote asked) log places status are =
+    rw are.places_are (of_answer are.required are.given.is_success are.given.answer)
 
 pub matched_read_back : (inputs : Inputs) (confirmation : Confirmation) (log : List ℕ) (places : List Pcr) (status : ℕ)
     → AreMatched inputs confirmation log (Some places) status → SpellsPlaces (matching_text places) places

@@ -3,7 +3,7 @@ use Rattle.std.specs.Prelude.{◌≡◌, ◌⊎◌, ℕ, List, [], ◌++◌, Opt
 use Rattle.boot_log.specs.declared.header.DeclaredAlgorithm.{DeclaredAlgorithm}
 use Rattle.boot_log.specs.Names.{IsLog, LogEvent}
 use Rattle.measured_data.specs.declared.confirmed.Pcr.{Pcr}
-use Rattle.boot_texts.specs.BootLines.{AreBootLines}
+use Rattle.boot_texts.specs.BootLines.{AreBootTexts}
 use Rattle.boot_texts.specs.Differences.{AreDifferenceLines}
 use Rattle.cells.specs.declared.writer.Form.{Form}
 use Rattle.agent_inputs.specs.declared.fault.RunFault.{RunFault}
@@ -25,8 +25,8 @@ AreCompared inputs form matched events (Some place) text =
     OfInput inputs place (λ earlier. (table : List DeclaredAlgorithm) × (others : List LogEvent) × IsLog earlier table others
     × AreDifferenceLines form matched events others text)
 
--- The bytes are a log, and the text answers what was booted, by the registers that match; and compares this with the boot of the log in the
--- input `before`, if there is one. The status is that of what they match by.
+-- The bytes are a log, and the text answers what was booted, by the registers that match, or if none were compared has what is claimed; and
+-- compares this with the boot of the log in the input `before`, if there is one. The status is that of what they match by.
 pub record ShowsBoot (inputs : Inputs) (form : Form) (confirmed_by : Confirmation) (before : Option Where) (log text : List ℕ) (status : ℕ)
     : Type 0 where
   pub table : List DeclaredAlgorithm
@@ -35,7 +35,7 @@ pub record ShowsBoot (inputs : Inputs) (form : Form) (confirmed_by : Confirmatio
   pub matched : Option (List Pcr)
   pub are_matched : AreMatched inputs confirmed_by log matched status
   pub answers : List ℕ
-  pub are_answers : AreBootLines form (places_of matched) events answers
+  pub are_answers : AreBootTexts form matched events answers
   pub compared : List ℕ
   pub are_compared : AreCompared inputs form (places_of matched) events before compared
   pub text_is : text ≡ answers ++ compared

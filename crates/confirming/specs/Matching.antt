@@ -1,19 +1,20 @@
--- The registers that match: those that have their expected values after a log, before any list; or those that a quote is of, which the list
--- does not extend.
+-- The registers that match: those that have their expected values after a log, before any list; or those that are required of a quote, which the
+-- list does not extend.
 use Rattle.std.specs.Prelude.{◌≡◌, ◌⊎◌, ℕ, ◌==◌, ◌&&◌, Bool, true, false, not, List, [], map, flat_map, filter, Option, None, Some, IsSomeAnd}
-use Rattle.std.specs.List.{Contains, list_any}
+use Rattle.std.specs.List.{AllByRecursion, Contains, list_any}
 use Rattle.std.specs.Option.{option_map_or}
 use Rattle.pcr_banks.specs.declared.alg.Alg.{Alg}
 use Rattle.pcr_banks.specs.declared.alg.Alg.TheVariants.{Sha1}
 use Rattle.pcr_banks.specs.declared.sets.AlgSet.{AlgSet}
 use Rattle.pcr_banks.specs.Names.{alg_of, bytes_of, same_alg}
-use Rattle.pcr_values.specs.Names.{IsExpectedText}
+use Rattle.pcr_values.specs.Names.{IsExpectedText, names}
 use Rattle.pcr_values.specs.declared.expected.Expected.{Expected}
+use Rattle.pcr_values.specs.declared.selection.BankRange.{BankRange}
 use Rattle.tpm_quotes.specs.Spelling.{BankSelection, all_registers, is_selected}
 use Rattle.attestations.specs.Quoted.{stated_of}
 use Rattle.boot_log.specs.declared.header.DeclaredAlgorithm.{DeclaredAlgorithm}
 use Rattle.boot_log.specs.Names.{IsLog, LogEvent, algs_in}
-use Rattle.boot_verdict.specs.Names.{ReadsAsLog, is_value, list_register, pcr_after_log}
+use Rattle.boot_verdict.specs.Names.{IsRequirementText, ReadsAsLog, is_value, list_register, pcr_after_log}
 use Rattle.measured_data.specs.declared.confirmed.Pcr.{Pcr}
 use Rattle.agent_plans.specs.declared.plan.Scope.TheVariants.{Whole}
 use Rattle.judging.specs.declared.request.Answer.{Answer}
@@ -84,26 +85,42 @@ pub record IsMatched (algs : AlgSet) (events : List LogEvent) (expected : List E
 abbrev pub is_of_log : List ℕ → ℕ → Bool
 is_of_log bits register = not (register == list_register) && is_selected bits register
 
+-- The register of the bank of this algorithm.
+abbrev pub place_at : Alg → ℕ → Pcr
+place_at alg register = record { alg = alg; register = register }
+
+-- Whether the quote confirms the register in its bank: it is required there, and the quote is of the value that the log alone gives it. (Root chooses
+-- what else the quote selects: it may be a bank that the firmware does not extend, which is root's to extend.)
+abbrev pub is_confirmed : List BankRange → List ℕ → Pcr → Bool
+is_confirmed required bits place = names required place.alg place.register && is_of_log bits place.register
+
 -- Those of a bank, ascending.
-abbrev pub places_in : BankSelection → List Pcr
-places_in selection =
-    filter (λ place. is_of_log selection.bits place.register)
-    (map (λ register. record { alg = selection.alg; register = register }) all_registers)
+abbrev pub places_in : List BankRange → BankSelection → List Pcr
+places_in required selection = filter (is_confirmed required selection.bits) (map (place_at selection.alg) all_registers)
 
 -- Those of all banks that are selected from.
-abbrev pub quoted_places : List BankSelection → List Pcr
-quoted_places selections = flat_map places_in selections
+abbrev pub quoted_places : List BankRange → List BankSelection → List Pcr
+quoted_places required selections = flat_map (places_in required) selections
 
 -- The registers that match by an answer: none, unless all is well with it.
-abbrev pub places_by : Bool → Answer → List Pcr
-places_by true (answers.Attestation report) = quoted_places (stated_of report.quoted).selections
-places_by is_success answer = []
+abbrev pub places_by : List BankRange → Bool → Answer → List Pcr
+places_by required true (answers.Attestation report) = quoted_places required (stated_of report.quoted).selections
+places_by required is_success answer = []
 
--- These match by the answer to what is asked of a quote; and the status is that of the answer.
-abbrev pub AreMatchedByQuote : Inputs → AttestRequested → List Pcr → ℕ → Type 0
-AreMatchedByQuote inputs asked places status =
-    (given : Answered) × IsAttestation inputs asked given × (places ≡ places_by given.is_success given.answer)
-    × (status ≡ answer_status given.is_success given.answer)
+-- These match by the answer to what is asked of a quote, whose text requires these registers; and the status is that of the answer.
+pub record AreMatchedByQuote (inputs : Inputs) (asked : AttestRequested) (places : List Pcr) (status : ℕ) : Type 0 where
+  pub required : List BankRange
+  pub given : Answered
+  pub required_are : IsRequirementText asked.required required
+  pub answer_is : IsAttestation inputs asked given
+  pub places_are : places ≡ places_by required given.is_success given.answer
+  pub status_is : status ≡ answer_status given.is_success given.answer
+
+-- The text requires each of these registers, in its bank.
+pub record AreRequiredBy (text : List ℕ) (places : List Pcr) : Type 0 where
+  pub required : List BankRange
+  pub required_are : IsRequirementText text required
+  pub named : AllByRecursion (λ place. names required place.alg place.register ≡ true) places
 
 -- ---- what tells it
 

@@ -11,17 +11,18 @@ ghost use Rattle.confirming.specs.Matching.{confirmation_of};
 ghost use Rattle.confirming.specs.Boot.{AreCompared, IsNoBoot, IsNoEarlierLog, ShowsBoot, places_of};
 
 use crate::confirmation::{Confirming, matching_in};
-use agent_inputs::{AgentFiles, RunFault, load_input};
+use agent_inputs::{AgentFiles, RunFault};
 use boot_log::LogView;
 use boot_texts::{append_boot, append_differences};
 use cells::Form;
-use judging::Input;
+use judging::{Input, load_at};
 use measured_data::Pcr;
 use rendering::Output;
 use std::alloc::Global;
 
 /// The answers on the boot that left the log in these bytes, and how far an earlier boot extended the registers alike, if there is a log of it.
-/// They are given by the registers that match, by what tells it; if nothing does none match, and what nothing confirms is unknown.
+/// They are given by the registers that match, by what tells it, and what nothing confirms is unknown; if nothing tells it, they are what the
+/// log's events claim, each marked so.
 ///
 /// What tells which registers match is loaded and read; then the log is looked through for its first fault; then that of the earlier boot is
 /// loaded and looked through.
@@ -43,7 +44,7 @@ pub fn boot_on<F: AgentFiles>(
     let places = places_of(&matched.places);
     let view = LogView::new(log)?;
     let mut text = Vec::new(alloc);
-    append_boot(alloc, &view, places, form, &mut text)?;
+    append_boot(alloc, &view, matched.places.as_deref(), form, &mut text)?;
     append_compared(alloc, files, &view, places, form, before, &mut text)?;
     Ok(Output {
         text,
@@ -102,13 +103,8 @@ fn append_earlier<F: AgentFiles>(
     ensures inputs { F.inputs files.new ≡ F.inputs files.old }
     ensures replaced { F.replaced files.new ≡ F.replaced files.old }
 {
-    match earlier {
-        Input::Bytes(bytes) => append_since(alloc, view, bytes, matched, form, lines),
-        Input::File(name) => {
-            let bytes = load_input(alloc, files, Some(name))?;
-            append_since(alloc, view, &bytes, matched, form, lines)
-        }
-    }
+    let held = load_at(alloc, files, earlier)?;
+    append_since(alloc, view, held.bytes(), matched, form, lines)
 }
 
 // Appends those of the comparison with the boot that left the log in these bytes.

@@ -35,8 +35,8 @@ pub struct Matched {
 pub(crate) const DONE: u8 = 0;
 
 /// The registers that match after the log in these bytes, by what tells it; by expected registers, those that have their values; by a quote of
-/// the log and a list, those that it is of, but for the list's, if the answer to it is well. If nothing tells it, none are compared. What tells
-/// it is loaded and read before the log is looked through, for its first fault; where nothing does, the log is not looked at.
+/// the log and a list, those that are required of it, but for the list's, if the answer to it is well. If nothing tells it, none are compared. What
+/// tells it is loaded and read before the log is looked through, for its first fault; where nothing does, the log is not looked at.
 pub fn matching_in<F: AgentFiles>(
     alloc: Global,
     files: &mut F,

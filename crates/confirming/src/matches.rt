@@ -11,9 +11,9 @@ ghost use Rattle.judging.specs.Requests.{location_of};
 ghost use Rattle.confirming.specs.Matching.{AreMatched, AreNotExpected, AreNotStated, ByExpected, IsLogFaultOf, IsMatched, MatchIn, counts, has_value, is_refuted, matched_among, matched_places, place_of, refutes};
 
 use crate::confirmation::{DONE, Matched};
-use agent_inputs::{AgentFiles, RunFault, load_input};
+use agent_inputs::{AgentFiles, RunFault};
 use boot_log::LogView;
-use judging::Input;
+use judging::{Input, load_at};
 use measured_data::Pcr;
 use pcr_banks::{Alg, Banks};
 use pcr_values::{Expected, read_expected};
@@ -33,13 +33,8 @@ pub(crate) fn expected_in<F: AgentFiles>(
     ensures inputs { F.inputs files.new ≡ F.inputs files.old }
     ensures replaced { F.replaced files.new ≡ F.replaced files.old }
 {
-    let places = match text {
-        Input::Bytes(text) => stated_in(alloc, log, text)?,
-        Input::File(name) => {
-            let text = load_input(alloc, files, Some(name))?;
-            stated_in(alloc, log, &text)?
-        }
-    };
+    let held = load_at(alloc, files, text)?;
+    let places = stated_in(alloc, log, held.bytes())?;
     Ok(Matched {
         places: Some(places),
         status: DONE,

@@ -15,6 +15,10 @@ use Rattle.ima_list.specs.declared.list_replay.ReplayFault.{ReplayFault}
 use Rattle.ima_list.specs.declared.list_replay.ReplayFault.TheVariants as replays
 use Rattle.known_files.specs.declared.fault.KnownFault.{KnownFault}
 use Rattle.known_files.specs.declared.fault.KnownFault.TheVariants as known
+use Rattle.list_imports.specs.declared.fault.ListImportFault.{ListImportFault}
+use Rattle.list_imports.specs.declared.fault.ListImportFault.TheVariants as texts
+use Rattle.log_imports.specs.declared.fault.LogImportFault.{LogImportFault}
+use Rattle.log_imports.specs.declared.fault.LogImportFault.TheVariants as forms
 use Rattle.measure_book.specs.declared.fault.BookFault.{BookFault}
 use Rattle.measure_book.specs.declared.fault.BookFault.TheVariants as books
 use Rattle.measure_book.specs.declared.gathers.GatherFault.{GatherFault}
@@ -51,6 +55,32 @@ list lists.Memory e = refl
 
 replay : (fault : ReplayFault) → HasSentence (fault_head (runs.Replay fault))
 replay (replays.BadTemplateDigest entry) e = refl
+
+list_text : (fault : ListImportFault) → HasSentence (fault_head (runs.ListText fault))
+list_text (texts.Malformed line) e = refl
+list_text (texts.UnknownTemplate line) e = refl
+list_text (texts.WrongDigest line) e = refl
+list_text (texts.TooLong line) e = refl
+list_text texts.Memory e = refl
+
+read_log : (fault : LogFault) → HasSentence (fault_head (runs.LogForm (forms.Log fault)))
+read_log (logs.Truncated event) e = refl
+read_log logs.NotCryptoAgile e = refl
+read_log logs.BadHeader e = refl
+read_log logs.DigestSize e = refl
+read_log logs.NoBank e = refl
+read_log (logs.UnknownAlg event) e = refl
+read_log (logs.DoubleDigest event) e = refl
+read_log (logs.MissingDigest event) e = refl
+read_log (logs.BadRegister event) e = refl
+read_log logs.Memory e = refl
+
+log_form : (fault : LogImportFault) → HasSentence (fault_head (runs.LogForm fault))
+log_form (forms.Log fault) e = read_log fault e
+log_form (forms.OldTruncated event) e = refl
+log_form (forms.OldRegister event) e = refl
+log_form forms.NotALog e = refl
+log_form forms.Memory e = refl
 
 expected : (fault : ExpectFault) → HasSentence (fault_head (runs.Expect fault))
 expected (expects.BadLine line) e = refl
@@ -161,6 +191,8 @@ each_error runs.NotHex e = e
 each_error (runs.Log fault) e = log fault e
 each_error (runs.List fault) e = list fault e
 each_error (runs.Replay fault) e = replay fault e
+each_error (runs.ListText fault) e = list_text fault e
+each_error (runs.LogForm fault) e = log_form fault e
 each_error (runs.Expect fault) e = expected fault e
 each_error (runs.Quote refusal) e = quote refusal e
 each_error (runs.Signature refusal) e = signature refusal e

@@ -8,6 +8,8 @@ use Rattle.error_texts.specs.Sentences.{SentenceData, sentence_of}
 abbrev pub named_place : FaultKind → Option ℕ → Option ℕ
 named_place kinds.Log place = place
 named_place kinds.List place = place
+named_place kinds.ListText place = place
+named_place kinds.LogForm place = place
 named_place kinds.Replay place = place
 named_place kinds.Expect place = place
 named_place kinds.Known place = place
@@ -20,6 +22,10 @@ words_before kinds.Log (Some event) = codes "The firmware event log is damaged a
 words_before kinds.Log None = codes "The firmware event log cannot be used: "
 words_before kinds.List (Some entry) = codes "The measurement list is damaged at entry "
 words_before kinds.List None = codes "The measurement list cannot be used: "
+words_before kinds.ListText (Some line) = codes "The list as text is wrong at line "
+words_before kinds.ListText None = codes "The list as text cannot be used: "
+words_before kinds.LogForm (Some event) = codes "The firmware event log is damaged at event "
+words_before kinds.LogForm None = codes "The firmware event log cannot be used: "
 words_before kinds.Replay (Some entry) = codes "The measurement list is damaged at entry "
 words_before kinds.Replay None = codes "The measurement list cannot be used: "
 words_before kinds.Expect (Some line) = codes "The PCR values are wrong at line "

@@ -26,7 +26,7 @@ abbrev pub log_sentence : ℕ → Option SentenceData
 log_sentence number =
     if number == 1 then row (codes "its bytes are not all there") (codes "Copy the log again.")
     else if number == 2 then row (codes "the first event is not the Specification ID Version Event of a crypto-agile log")
-    (codes "Give binary_bios_measurements, as the kernel has it. Kernels before 5.3 and some cloud machines have it only in the form of TPM 1.2, which is not read.")
+    (codes "Give binary_bios_measurements, as the kernel has it. Kernels before 5.3 and some cloud machines have it only in the form of TPM 1.2: convert that first.")
     else if number == 3 then row (codes "the header's algorithm table or vendor bytes are malformed") firmware
     else if number == 4 then row (codes "the header gives a known algorithm a wrong digest size") firmware
     else if number == 5 then row (codes "the header declares no known algorithm")
@@ -51,6 +51,30 @@ replay_sentence number =
     if number == 1 then row (codes "its template digest is not the SHA-1 of what it covers, and it is no violation")
     (codes "Copy the list again. If the error stays, the entry was changed: do not trust the list.")
     else None
+
+-- ---- what is wrong with what is converted, and what to do
+
+abbrev pub as_text : List ℕ
+as_text = codes "Give ascii_runtime_measurements, as the kernel has it, unchanged."
+
+abbrev pub text_sentence : ℕ → Option SentenceData
+text_sentence number =
+    if number == 1 then row (codes "it is no line of a measurement list, as the kernel prints it") as_text
+    else if number == 2 then row (codes "its template is none of the kernel's")
+    (codes "Give binary_runtime_measurements, which has all of the entry.")
+    else if number == 3 then row (codes "its template digest is not the SHA-1 of what it covers, and it is no violation")
+    (codes "Give binary_runtime_measurements: the kernel may have replaced spaces of the path. If that is not genuine either, the entry was changed: do not trust the list.")
+    else if number == 4 then row (codes "it is longer than 1,048,576 bytes") as_text
+    else None
+
+-- The numbers that a log has are its own.
+abbrev pub form_sentence : ℕ → Option SentenceData
+form_sentence number =
+    if number == 11 then row (codes "its bytes are not all there") (codes "Copy the log again.")
+    else if number == 12 then row (codes "it extends a PCR above 23") firmware
+    else if number == 13 then row (codes "the bytes begin with no event of a firmware log")
+    (codes "Give binary_bios_measurements, as the kernel has it, or the log of the ACPI table CCEL.")
+    else log_sentence number
 
 -- ---- what is wrong with PCR values, known files or a checkpoint, and what to do
 
@@ -240,6 +264,8 @@ abbrev pub sentence_of : FaultKind → ℕ → Option SentenceData
 sentence_of kinds.Log number = log_sentence number
 sentence_of kinds.List number = list_sentence number
 sentence_of kinds.Replay number = replay_sentence number
+sentence_of kinds.ListText number = text_sentence number
+sentence_of kinds.LogForm number = form_sentence number
 sentence_of kinds.Expect number = expected_sentence number
 sentence_of kinds.Known number = known_sentence number
 sentence_of kinds.Checkpoint number = checkpoint_sentence number

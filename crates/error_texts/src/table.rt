@@ -4,7 +4,7 @@ ghost use Rattle.std.specs.Prelude.{◌≡◌, None, option_map};
 ghost use Rattle.error_texts.specs.Sentences.{argument_sentence, memory_sentence, row, said, sentence_of, without_number};
 
 use crate::keys::key_sentence;
-use crate::logs::{list_sentence, log_sentence, replay_sentence};
+use crate::logs::{form_sentence, list_sentence, log_sentence, replay_sentence, text_sentence};
 use crate::measuring::{book_sentence, gather_sentence};
 use crate::quotes::{quote_sentence, signature_sentence};
 use crate::values::{checkpoint_sentence, expected_sentence, known_sentence};
@@ -30,6 +30,8 @@ pub fn sentence_of(kind: FaultKind, number: u32) -> Option<Sentence>
         FaultKind::Log => log_sentence(number),
         FaultKind::List => list_sentence(number),
         FaultKind::Replay => replay_sentence(number),
+        FaultKind::ListText => text_sentence(number),
+        FaultKind::LogForm => form_sentence(number),
         FaultKind::Expect => expected_sentence(number),
         FaultKind::Known => known_sentence(number),
         FaultKind::Checkpoint => checkpoint_sentence(number),

@@ -35,6 +35,8 @@ fn named_place(kind: FaultKind, place: Option<u64>) -> Option<u64>
         FaultKind::Log
         | FaultKind::List
         | FaultKind::Replay
+        | FaultKind::ListText
+        | FaultKind::LogForm
         | FaultKind::Expect
         | FaultKind::Known
         | FaultKind::Outcome => place,
@@ -66,11 +68,14 @@ fn words_before(kind: FaultKind, place: Option<u64>) -> &'static str
     ensures { result.now ≡ words_before kind place }
 {
     match (kind, place) {
-        (FaultKind::Log, Some(_)) => "The firmware event log is damaged at event ",
-        (FaultKind::Log, None) => "The firmware event log cannot be used: ",
+        (FaultKind::Log | FaultKind::LogForm, Some(_)) =>
+            "The firmware event log is damaged at event ",
+        (FaultKind::Log | FaultKind::LogForm, None) => "The firmware event log cannot be used: ",
         (FaultKind::List | FaultKind::Replay, Some(_)) =>
             "The measurement list is damaged at entry ",
         (FaultKind::List | FaultKind::Replay, None) => "The measurement list cannot be used: ",
+        (FaultKind::ListText, Some(_)) => "The list as text is wrong at line ",
+        (FaultKind::ListText, None) => "The list as text cannot be used: ",
         (FaultKind::Expect, Some(_)) => "The PCR values are wrong at line ",
         (FaultKind::Expect, None) => "The PCR values cannot be used: ",
         (FaultKind::Known, Some(_)) => "The known files are wrong at line ",

@@ -2,18 +2,34 @@
 use Rattle.std.proofs.Common.{◌≡◌, ℕ, ◌*◌, ◌/◌, List, ◌++◌, length, Some, Ok, refl, sym, ap, ◌∙◌, arith}
 use Rattle.std.specs.Int.{w32}
 use Rattle.std.specs.Result.{result_ok}
-use Rattle.byte_fields.specs.Formats.{number, whole}
+use Rattle.byte_fields.specs.Formats.{Format, number, whole}
 use Rattle.byte_fields.specs.Spelling.{number64}
 use Rattle.byte_fields.proofs.Steps.{IsBytes}
-use Rattle.byte_fields.proofs.FormatLaws.{Exact, number32_exact, number64_exact, part_exact, followed_exact, mapped_exact, whole_takes, whole_again}
+use Rattle.byte_fields.proofs.FormatLaws.{Exact, takes, again, number32_exact, number64_exact, part_exact, followed_exact, mapped_exact, whole_takes, whole_again}
 use Rattle.event_data.specs.declared.content.Mismatch.{Mismatch}
 use Rattle.event_data.specs.declared.content.Mismatch.TheVariants.{Form}
-use Rattle.event_data.specs.Names.{ImageData, IsImage, IsSeparator, IsVariable, VariableData, image_in, separator_in, variable_in}
+use Rattle.event_data.specs.Names.{ImageData, IsFollowed, IsImage, IsSeparator, IsVariable, VariableData, image_in, image_then, separator_in, variable_in, variable_then}
 use Rattle.event_data.specs.Reading.{variable, image}
-use Rattle.event_data.proofs.Finding.{Finds, whole_finds, some_is}
+use Rattle.event_data.proofs.Finding.{Finds, whole_finds, ok_some, some_is}
 
 abbrev pub AnyFault : Mismatch → Type 0
 AnyFault fault = Unit {0}
+
+-- ---- a form, and what follows it
+
+module _ {X : Type 0} {format : Format X Mismatch} (exact : Exact AnyFault format) (Is : List ℕ → X → Type 0) where
+  pub followed_is : ((x : X) → format.Is x → Is (format.spell x) x) → (bytes : List ℕ) (x : X) (rest : List ℕ) → IsBytes bytes
+      → result_ok (format.at bytes) ≡ Some (x, rest) → IsFollowed Is bytes x rest
+  followed_is into bytes x rest fits e =
+      let taken = takes exact bytes (x, rest) fits (ok_some (format.at bytes) (x, rest) e) in
+      record { form = format.spell x; is = into x taken.is; spelled = taken.parts }
+
+  pub followed_only : ((form : List ℕ) (x : X) → Is form x → format.Is x × (form ≡ format.spell x)) → (bytes : List ℕ) (x : X) (rest : List ℕ)
+      → IsFollowed Is bytes x rest → result_ok (format.at bytes) ≡ Some (x, rest)
+  followed_only out bytes x rest is =
+      let own = out is.form x is.is in
+      ap (λ (b : List ℕ). result_ok (format.at b)) (is.spelled ∙ ap (λ (form : List ℕ). form ++ rest) own.1)
+      ∙ ap result_ok (again exact x rest own.0)
 
 -- ---- a variable
 
@@ -55,6 +71,35 @@ variable_again bytes v is =
     ((is.guid_size, (rw half is.units_fit, (is.value_fits, (doubled (length v.name) is.units is.name_size, refl)))), refl)
     (is.spelled ∙ ap (λ (n : ℕ). v.guid ++ (number64 n ++ (number64 (length v.value) ++ (v.name ++ v.value)))) (sym half))
 
+variable_into : (v : VariableData) → variable.Is v → IsVariable (variable.spell v) v
+unfolding variable
+variable_into v is =
+    let own = is.0 in
+    record {
+      units = length v.name / 2;
+      guid_size = own.0;
+      units_fit = own.1.0;
+      value_fits = own.1.1.0;
+      name_size = own.1.1.1.0;
+      spelled = refl;
+    }
+
+variable_out : (form : List ℕ) (v : VariableData) → IsVariable form v → variable.Is v × (form ≡ variable.spell v)
+unfolding variable
+variable_out form v is =
+    let half = halved (length v.name) is.units is.name_size in (
+      ((is.guid_size, (rw half is.units_fit, (is.value_fits, (doubled (length v.name) is.units is.name_size, refl)))), refl),
+      is.spelled ∙ ap (λ (n : ℕ). v.guid ++ (number64 n ++ (number64 (length v.value) ++ (v.name ++ v.value)))) (sym half),
+    )
+
+pub variable_then_is : (bytes : List ℕ) (v : VariableData) (rest : List ℕ) → IsBytes bytes → variable_then bytes ≡ Some (v, rest)
+    → IsFollowed IsVariable bytes v rest
+variable_then_is bytes v rest fits e = followed_is variable_exact IsVariable variable_into bytes v rest fits e
+
+pub variable_then_only : (bytes : List ℕ) (v : VariableData) (rest : List ℕ) → IsFollowed IsVariable bytes v rest
+    → variable_then bytes ≡ Some (v, rest)
+variable_then_only bytes v rest is = followed_only variable_exact IsVariable variable_out bytes v rest is
+
 -- ---- an image
 
 image_exact : Exact AnyFault image
@@ -77,6 +122,24 @@ unfolding image
 image_again bytes v is =
     whole_again Form image_exact bytes v
     ((is.location_fits, (is.size_fits, (is.link_address_fits, (is.path_fits, refl)))), refl) is.spelled
+
+image_into : (v : ImageData) → image.Is v → IsImage (image.spell v) v
+unfolding image
+image_into v is =
+    let own = is.0 in
+    record { location_fits = own.0; size_fits = own.1.0; link_address_fits = own.1.1.0; path_fits = own.1.1.1.0; spelled = refl }
+
+image_out : (form : List ℕ) (v : ImageData) → IsImage form v → image.Is v × (form ≡ image.spell v)
+unfolding image
+image_out form v is =
+    (((is.location_fits, (is.size_fits, (is.link_address_fits, (is.path_fits, refl)))), refl), is.spelled)
+
+pub image_then_is : (bytes : List ℕ) (v : ImageData) (rest : List ℕ) → IsBytes bytes → image_then bytes ≡ Some (v, rest)
+    → IsFollowed IsImage bytes v rest
+image_then_is bytes v rest fits e = followed_is image_exact IsImage image_into bytes v rest fits e
+
+pub image_then_only : (bytes : List ℕ) (v : ImageData) (rest : List ℕ) → IsFollowed IsImage bytes v rest → image_then bytes ≡ Some (v, rest)
+image_then_only bytes v rest is = followed_only image_exact IsImage image_out bytes v rest is
 
 pub variable_finds : (bytes : List ℕ) → IsBytes bytes → Finds (IsVariable bytes) (variable_in bytes)
 variable_finds bytes fits = whole_finds (whole Form variable bytes) (λ v e. variable_takes bytes v fits e) (variable_again bytes)

@@ -9,9 +9,11 @@ pub mod NulUnitLaws
 pub mod FixedSize
 pub mod EntryLaws
 pub mod GptLaws
-pub mod ContentLaws
 pub mod TakenLaws
 pub mod UnitLaws
 pub mod ValueLaws
 pub mod ListLaws
+pub mod CertificateLaws
+pub mod HandoffLaws
+pub mod ContentLaws
 pub mod SaysLaws

@@ -5,9 +5,13 @@ use Rattle.std.proofs.lemmas.Bool.{ne_eqb}
 use Rattle.byte_fields.proofs.Steps.{IsBytes}
 use Rattle.event_data.specs.declared.value_reader.ValueForm.{ValueForm}
 use Rattle.event_data.specs.declared.value_reader.ValueForm.TheVariants as forms
-use Rattle.event_data.specs.Names.{AreSignatureLists, IsBootNumber, IsBootOrder, IsLoadOption, IsSignature, IsSignatureList, ListData, LoadOptionData, SaysValue, SignatureData, ValueSays, ValueSaysIn, VariableData, all_taken, flag, flag_says, lists, lists_in, load_option_in, numbers_in, option, order, says_in, signature_in, value_form}
+use Rattle.event_data.specs.Names.{AreSignatureLists, IsBootNumber, IsBootOrder, IsCertificate, IsLoadOption, IsSignature, IsSignatureList, IsText, ListData, LoadOptionData, SaysValue, SignatureData, ValueSays, ValueSaysIn, VariableData, all_taken, authority_says, certificate, certificate_in, flag, flag_says, level, lists, lists_in, load_option_in, numbers_in, option, order, says_in, signature_in, text_in, value_form}
 use Rattle.event_data.specs.Values.{signature, unknown}
+use Rattle.event_data.proofs.CertificateLaws.{certificate_finds, certificate_only}
+use Rattle.event_data.proofs.ContentLaws.{none_found}
+use Rattle.event_data.proofs.Finding.{Finds, none_is}
 use Rattle.event_data.proofs.TakenLaws.{all_takes, all_again}
+use Rattle.event_data.proofs.TextLaws.{text_finds}
 use Rattle.event_data.proofs.ValueLaws.{boot_number_exact, some_number, number_into, number_out, numbers_rest, load_option_takes, load_option_again, signature_takes, signature_again}
 use Rattle.event_data.proofs.ListLaws.{list_exact, some_list, list_into, list_out}
 
@@ -27,6 +31,8 @@ only_flag bytes (order value) is = absurd is
 only_flag bytes (option value) is = absurd is
 only_flag bytes (lists value) is = absurd is
 only_flag bytes (signature value) is = absurd is
+only_flag bytes (certificate value) is = absurd is
+only_flag bytes (level value) is = absurd is
 only_flag bytes unknown is = absurd is
 
 says_flag : (bytes : List ℕ) → SaysOrNot forms.Flag bytes (flag_says bytes)
@@ -48,6 +54,8 @@ only_order bytes (order value) is = (value, is, refl)
 only_order bytes (option value) is = absurd is
 only_order bytes (lists value) is = absurd is
 only_order bytes (signature value) is = absurd is
+only_order bytes (certificate value) is = absurd is
+only_order bytes (level value) is = absurd is
 only_order bytes unknown is = absurd is
 
 says_order : (bytes : List ℕ) (found : Option (List ℕ)) → ((value : List ℕ) → found ≡ Some value → IsBootOrder bytes value)
@@ -68,6 +76,8 @@ only_option bytes (order value) is = absurd is
 only_option bytes (option value) is = (value, is, refl)
 only_option bytes (lists value) is = absurd is
 only_option bytes (signature value) is = absurd is
+only_option bytes (certificate value) is = absurd is
+only_option bytes (level value) is = absurd is
 only_option bytes unknown is = absurd is
 
 says_option : (bytes : List ℕ) (found : Option (LoadOptionData)) → ((value : LoadOptionData) → found ≡ Some value → IsLoadOption bytes value)
@@ -88,6 +98,8 @@ only_lists bytes (order value) is = absurd is
 only_lists bytes (option value) is = absurd is
 only_lists bytes (lists value) is = (value, is, refl)
 only_lists bytes (signature value) is = absurd is
+only_lists bytes (certificate value) is = absurd is
+only_lists bytes (level value) is = absurd is
 only_lists bytes unknown is = absurd is
 
 says_lists : (bytes : List ℕ) (found : Option (List ListData)) → ((value : List ListData) → found ≡ Some value → AreSignatureLists bytes value)
@@ -101,25 +113,50 @@ says_lists bytes None takes again =
           none_not_some only.0 None refl (again only.0 only.1),
     )
 
-only_signature : (bytes : List ℕ) (other : ValueSays)
-    → ValueSaysIn forms.Signature bytes other → (value : SignatureData) × (IsSignature bytes value) × (other ≡ signature value)
-only_signature bytes (flag value) is = absurd is
-only_signature bytes (order value) is = absurd is
-only_signature bytes (option value) is = absurd is
-only_signature bytes (lists value) is = absurd is
-only_signature bytes (signature value) is = (value, is, refl)
-only_signature bytes unknown is = absurd is
+only_certificate : (bytes : List ℕ) (other : ValueSays)
+    → ValueSaysIn forms.Certificate bytes other → (value : List ℕ) × (IsCertificate bytes value) × (other ≡ certificate value)
+only_certificate bytes (certificate value) is = (value, is, refl)
+only_certificate bytes other is = absurd (search is)
 
-says_signature : (bytes : List ℕ) (found : Option (SignatureData)) → ((value : SignatureData) → found ≡ Some value → IsSignature bytes value)
-    → ((value : SignatureData) → IsSignature bytes value → found ≡ Some value) → SaysOrNot forms.Signature bytes (option_map_or signature found unknown)
-says_signature bytes (Some value) takes again = inl (takes value refl)
-says_signature bytes None takes again =
-    inr (
-      refl,
-      λ other is.
-          let only = only_signature bytes other is in
-          none_not_some only.0 None refl (again only.0 only.1),
-    )
+says_certificate : (bytes : List ℕ) (found : Option (List ℕ)) → Finds (IsCertificate bytes) found
+    → SaysOrNot forms.Certificate bytes (option_map_or certificate found unknown)
+says_certificate bytes (Some value) f = inl (f.is value refl)
+says_certificate bytes None f =
+    inr (refl, λ other is. let only = only_certificate bytes other is in none_not_some only.0 None refl (f.only only.0 only.1))
+
+only_level : (bytes : List ℕ) (other : ValueSays)
+    → ValueSaysIn forms.Level bytes other → (value : List ℕ) × (IsText bytes value) × (other ≡ level value)
+only_level bytes (level value) is = (value, is, refl)
+only_level bytes other is = absurd (search is)
+
+says_level : (bytes : List ℕ) (found : Option (List ℕ)) → Finds (IsText bytes) found
+    → SaysOrNot forms.Level bytes (option_map_or level found unknown)
+says_level bytes (Some value) f = inl (f.is value refl)
+says_level bytes None f =
+    inr (refl, λ other is. let only = only_level bytes other is in none_not_some only.0 None refl (f.only only.0 only.1))
+
+neither : (bytes : List ℕ) → Finds (IsCertificate bytes) None → ((value : SignatureData) → IsSignature bytes value → None ≡ Some value)
+    → (other : ValueSays) → ValueSaysIn forms.Signature bytes other → ⊥
+neither bytes f again (certificate value) is = none_is f refl value is
+neither bytes f again (signature value) is = none_not_some value None refl (again value is.0)
+neither bytes f again other is = absurd (search is)
+
+-- A certificate, else a signature.
+says_either : (bytes : List ℕ) (first : Option (List ℕ)) (second : Option SignatureData) → Finds (IsCertificate bytes) first
+    → ((value : SignatureData) → second ≡ Some value → IsSignature bytes value)
+    → ((value : SignatureData) → IsSignature bytes value → second ≡ Some value)
+    → SaysOrNot forms.Signature bytes (option_map_or certificate first (option_map_or signature second unknown))
+says_either bytes (Some value) second f takes again = inl (f.is value refl)
+says_either bytes None (Some value) f takes again = inl (takes value refl, none_is f refl)
+says_either bytes None None f takes again = inr (refl, neither bytes f again)
+
+-- What allowed an image is what the function gives.
+is_either : (bytes : List ℕ) (says : ValueSays) → IsBytes bytes → ValueSaysIn forms.Signature bytes says → authority_says bytes ≡ says
+is_either bytes (certificate value) fits is = rw (certificate_only bytes value is) refl
+is_either bytes (signature value) fits is =
+    rw (none_found (certificate_in bytes) (certificate_finds bytes fits) is.1)
+    (ap (λ (o : Option SignatureData). option_map_or signature o unknown) (signature_again bytes value is.0))
+is_either bytes says fits is = absurd (search is)
 
 -- ---- any form
 
@@ -136,7 +173,10 @@ says_or_not forms.Lists bytes fits =
     (λ value e. all_takes list_exact some_list IsSignatureList list_into list_out bytes value fits e)
     (λ value is. all_again list_exact some_list IsSignatureList list_into list_out bytes value fits is)
 says_or_not forms.Signature bytes fits =
-    says_signature bytes (signature_in bytes) (λ value e. signature_takes bytes value fits e) (λ value is. signature_again bytes value is)
+    says_either bytes (certificate_in bytes) (signature_in bytes) (certificate_finds bytes fits)
+    (λ value e. signature_takes bytes value fits e) (λ value is. signature_again bytes value is)
+says_or_not forms.Certificate bytes fits = says_certificate bytes (certificate_in bytes) (certificate_finds bytes fits)
+says_or_not forms.Level bytes fits = says_level bytes (text_in bytes) (text_finds bytes)
 says_or_not forms.Other bytes fits = inr (refl, λ other is. is)
 
 -- What a value says in the form is what the function gives.
@@ -155,9 +195,13 @@ says_is forms.Lists bytes says fits is =
     let only = only_lists bytes says is in
     ap (λ (o : Option (List ListData)). option_map_or lists o unknown)
     (all_again list_exact some_list IsSignatureList list_into list_out bytes only.0 fits only.1) ∙ sym only.2
-says_is forms.Signature bytes says fits is =
-    let only = only_signature bytes says is in
-    ap (λ (o : Option SignatureData). option_map_or signature o unknown) (signature_again bytes only.0 only.1) ∙ sym only.2
+says_is forms.Signature bytes says fits is = is_either bytes says fits is
+says_is forms.Certificate bytes says fits is =
+    let only = only_certificate bytes says is in
+    ap (λ (o : Option (List ℕ)). option_map_or certificate o unknown) (certificate_only bytes only.0 only.1) ∙ sym only.2
+says_is forms.Level bytes says fits is =
+    let only = only_level bytes says is in
+    ap (λ (o : Option (List ℕ)). option_map_or level o unknown) ((text_finds bytes).only only.0 only.1) ∙ sym only.2
 says_is forms.Other bytes says fits is = absurd is
 
 says_once : (form : ValueForm) (bytes : List ℕ) (says other : ValueSays) → IsBytes bytes → SaysOrNot form bytes says

@@ -1,11 +1,12 @@
 -- Texts, GUIDs and localities: what is read is what was spelled, and what is spelled is read.
-use Rattle.std.proofs.Common.{◌≡◌, ℕ, ◌*◌, ◌/◌, ◌%◌, Bool, true, false, not, ◌&&◌, cond, eqb, List, [], ◌∷◌, ◌++◌, length, codes, Option, Some, None, unwrap_or, IsUtf8, refl, sym, ap, subst, ◌∙◌, ◌⊎◌, inl, inr, arith}
+use Rattle.std.proofs.Common.{◌≡◌, ℕ, ◌*◌, ◌/◌, ◌%◌, Bool, true, false, not, ◌&&◌, cond, eqb, List, [], ◌∷◌, ◌++◌, length, codes, Option, Some, None, option_and_then, unwrap_or, IsUtf8, refl, sym, ap, subst, ◌∙◌, ◌⊎◌, inl, inr, arith}
+use Rattle.std.specs.Prelude.{IfSome}
 use Rattle.std.specs.Str.{is_utf8}
 use Rattle.std.proofs.lemmas.Bool.{eqb-true}
 use Rattle.std.proofs.lemmas.Str.{IsUtf8-from_is_utf8, is_utf8-from_IsUtf8}
 use Rattle.byte_fields.proofs.Steps.{IsBytes}
 use Rattle.byte_fields.proofs.FormatLaws.{IsBytes-behind}
-use Rattle.event_data.specs.Names.{IsGuid, IsLocality, IsText, IsWideText, before_in, even_only, guid_in, has_no_nul, locality_in, one_byte, text_in, wide_text_in}
+use Rattle.event_data.specs.Names.{IsGuid, IsLocality, IsTechnology, IsText, IsWideText, before_in, even_only, guid_in, has_no_nul, locality_in, one_byte, reserved, technology_in, text_in, wide_text_in}
 use Rattle.event_data.proofs.AffixLaws.{before_finds, after_finds, tested, passed}
 use Rattle.event_data.proofs.Finding.{Finds, alike_finds, then_finds}
 
@@ -127,6 +128,34 @@ locality_finds bytes fits =
     record { fits = IsBytes-behind bytes locality_prefix (value ∷ []) spelled fits 0; spelled = spelled })
     (λ value is. (value ∷ [], is.spelled, refl))
     (ends_finds bytes)
+
+-- ---- how a host keeps its guests apart
+
+abbrev host_prefix : List ℕ
+host_prefix = codes "GCE NonHostInfo" ++ 0 ∷ []
+
+abbrev IsReserved : List ℕ → ℕ → Type 0
+IsReserved rest value = (prefix : List ℕ) × (rest ≡ prefix ++ reserved) × (prefix ≡ value ∷ [])
+
+reserved_finds : (rest : List ℕ) → Finds (IsReserved rest) (option_and_then one_byte (before_in reserved rest))
+reserved_finds rest = then_finds (before_finds reserved rest) byte_finds
+
+-- After the signature come the technology and reserved bytes.
+host_finds : (bytes : List ℕ) → Finds (λ value. (rest : List ℕ) × (bytes ≡ host_prefix ++ rest) × IsReserved rest value) (technology_in bytes)
+host_finds bytes = then_finds (after_finds host_prefix bytes) reserved_finds
+
+pub technology_finds : (bytes : List ℕ) → Finds (IsTechnology bytes) (technology_in bytes)
+technology_finds bytes =
+    alike_finds
+    (λ value is. record {
+      spelled = is.1 ∙ ap (λ (t : List ℕ). host_prefix ++ t) (is.2.1 ∙ ap (λ (p : List ℕ). p ++ reserved) is.2.2);
+    })
+    (λ value is. (value ∷ reserved, is.spelled, (value ∷ [], refl, refl)))
+    (host_finds bytes)
+
+pub technology_is : (bytes : List ℕ) (found : Option ℕ) → found ≡ technology_in bytes → IfSome found (IsTechnology bytes)
+technology_is bytes (Some value) e = (technology_finds bytes).is value (sym e)
+technology_is bytes None e = tt
 
 -- ---- what the reader of texts comes to
 

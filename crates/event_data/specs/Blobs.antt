@@ -57,6 +57,17 @@ pub record IsLocality (bytes : List ℕ) (locality : ℕ) : Type 0 where
   pub fits : locality < 2 ^ 8
   pub spelled : bytes ≡ (codes "StartupLocality" ++ 0 ∷ []) ++ locality ∷ []
 
+-- ---- what a host says
+
+-- Bytes that are reserved: fifteen, all NUL.
+abbrev pub reserved : List ℕ
+reserved = 0 ∷ 0 ∷ 0 ∷ 0 ∷ 0 ∷ 0 ∷ 0 ∷ 0 ∷ 0 ∷ 0 ∷ 0 ∷ 0 ∷ 0 ∷ 0 ∷ 0 ∷ []
+
+-- The bytes tell how a host of Google keeps its guests apart (go-eventlog, ParseGCENonHostInfo, GCEConfidentialTechnology): a signature of
+-- 16 bytes, the technology in one byte, and reserved bytes.
+pub record IsTechnology (bytes : List ℕ) (technology : ℕ) : Type 0 where
+  pub spelled : bytes ≡ (codes "GCE NonHostInfo" ++ 0 ∷ []) ++ technology ∷ reserved
+
 -- ---- a GUID
 
 -- The bytes are a GUID.

@@ -1,12 +1,14 @@
 -- What the data of an event says, by its type.
-use Rattle.std.specs.Prelude.{◌≡◌, ℕ, ◌⊎◌, Bool, ◌==◌, if◌then◌else◌, List, [], ◌∷◌}
+use Rattle.std.specs.Prelude.{◌≡◌, ℕ, ◌⊎◌, Bool, ◌==◌, if◌then◌else◌, List, [], ◌∷◌, ◌++◌}
 use Rattle.std.specs.List.{list_any}
 use Rattle.event_data.specs.declared.content.EventContent.{EventContent}
 use Rattle.event_data.specs.declared.content.EventContent.TheVariants as contents
 use Rattle.event_data.specs.declared.content.DataForm.{DataForm}
 use Rattle.event_data.specs.declared.content.DataForm.TheVariants as forms
-use Rattle.event_data.specs.Forms.{CommandData, VariableData, ImageData, IsSeparator, IsText, IsWideText, IsCommand, IsVariable, IsImage, command_of, variable_of, image_of}
-use Rattle.event_data.specs.Blobs.{BlobData, TaggedData, IsPlainBlob, IsDescribedBlob, IsTagged, IsLocality, IsGuid, blob_of, tagged_of}
+use Rattle.event_data.specs.Forms.{CommandData, VariableData, ImageData, IsFollowed, IsSeparator, IsText, IsWideText, IsCommand, IsVariable, IsImage, command_of, variable_of, image_of}
+use Rattle.event_data.specs.Blobs.{BlobData, TaggedData, IsPlainBlob, IsDescribedBlob, IsTagged, IsLocality, IsTechnology, IsGuid, blob_of, tagged_of}
+use Rattle.event_data.specs.Handoffs.{HandoffData, IsHandoff, IsDescribedHandoff}
+use Rattle.event_data.specs.HandoffViews.{handoff_of}
 use Rattle.event_data.specs.GptForms.{GptData, IsGpt}
 use Rattle.event_data.specs.Gpts.{gpt_of}
 
@@ -35,8 +37,12 @@ gpt_types = 0x80000006 ∷ 0x8000000d ∷ []
 abbrev pub described_blob_types : List ℕ
 described_blob_types = 0x00000013 ∷ 0x8000000a ∷ []
 
+-- EV_CPU_MICROCODE, EV_PLATFORM_CONFIG_FLAGS, EV_TABLE_OF_DEVICES, EV_NONHOST_CODE, EV_NONHOST_CONFIG: the manufacturer defines their data.
+abbrev pub configuration_types : List ℕ
+configuration_types = 0x00000009 ∷ 0x0000000a ∷ 0x0000000b ∷ 0x0000000f ∷ 0x00000010 ∷ []
+
 -- The types that have a form of their own: EV_POST_CODE, EV_NO_ACTION, EV_SEPARATOR, EV_EVENT_TAG, EV_S_CRTM_VERSION, EV_IPL,
--- EV_EFI_PLATFORM_FIRMWARE_BLOB.
+-- EV_NONHOST_INFO, EV_EFI_PLATFORM_FIRMWARE_BLOB, EV_EFI_HANDOFF_TABLES, EV_EFI_HANDOFF_TABLES2.
 abbrev pub form_of : ℕ → DataForm
 form_of kind =
     if kind == 0x00000001 then forms.PostCode
@@ -45,12 +51,16 @@ form_of kind =
     else if kind == 0x00000006 then forms.Tagged
     else if kind == 0x00000008 then forms.Version
     else if kind == 0x0000000d then forms.Loader
+    else if kind == 0x00000011 then forms.Host
     else if kind == 0x80000008 then forms.PlainBlob
+    else if kind == 0x80000009 then forms.Handoff
+    else if kind == 0x8000000b then forms.DescribedHandoff
     else if is_among text_types kind then forms.Text
     else if is_among variable_types kind then forms.Variable
     else if is_among image_types kind then forms.Image
     else if is_among gpt_types kind then forms.Gpt
     else if is_among described_blob_types kind then forms.DescribedBlob
+    else if is_among configuration_types kind then forms.Configuration
     else forms.Other
 
 -- ---- what data says
@@ -61,12 +71,14 @@ pub data Content : Type 0 where
   wide_text : List ℕ → Content
   guid : List ℕ → Content
   command : CommandData → Content
-  variable : VariableData → Content
-  image : ImageData → Content
+  variable : VariableData → List ℕ → Content
+  image : ImageData → List ℕ → Content
   gpt : GptData → Content
   blob : BlobData → Content
   tagged : TaggedData → Content
   locality : ℕ → Content
+  technology : ℕ → Content
+  handoff : HandoffData → Content
   unknown : List ℕ → Content
 
 -- Data of the form of texts says this.
@@ -80,16 +92,44 @@ abbrev pub SaysVersion : List ℕ → Content → Type 0
 SaysVersion bytes (guid value) = IsGuid bytes value × ((other : Content) → SaysText bytes other → ⊥)
 SaysVersion bytes content = SaysText bytes content
 
--- What a boot loader measured says this: a command of GRUB, else a text.
+-- The bytes are a text and a NUL more.
+abbrev pub SaysTextAndNul : List ℕ → Content → Type 0
+SaysTextAndNul bytes content = (shorter : List ℕ) × (bytes ≡ shorter ++ 0 ∷ []) × SaysText shorter content
+
+-- The bytes are a text, else a text and a NUL more.
+abbrev pub SaysLongText : List ℕ → Content → Type 0
+SaysLongText bytes content =
+    SaysText bytes content ⊎ (SaysTextAndNul bytes content × ((other : Content) → SaysText bytes other → ⊥))
+
+-- What a boot loader measured says this: a command of GRUB, else a text, else a text and a NUL more. (shim and systemd-boot have counted the
+-- NUL twice: shim, tpm.c; systemd, src/boot/efi/measure.c.)
 abbrev pub SaysLoader : List ℕ → Content → Type 0
 SaysLoader bytes (command value) = IsCommand bytes value
-SaysLoader bytes content = SaysText bytes content × ((other : CommandData) → IsCommand bytes other → ⊥)
+SaysLoader bytes content = SaysLongText bytes content × ((other : CommandData) → IsCommand bytes other → ⊥)
 
 -- A POST code says this: a text in UTF-8, else a blob. (The last bytes of most blobs are NUL, as those of a text in UTF-16 are.)
 abbrev pub SaysPostCode : List ℕ → Content → Type 0
 SaysPostCode bytes (text value) = IsText bytes value
 SaysPostCode bytes (blob value) = IsPlainBlob bytes value × ((other : List ℕ) → IsText bytes other → ⊥)
 SaysPostCode bytes content = ⊥
+
+-- A tagged event says this: a text in UTF-8, which logs of TDX guests have in its place, else a tag and data.
+abbrev pub SaysTag : List ℕ → Content → Type 0
+SaysTag bytes (text value) = IsText bytes value
+SaysTag bytes (tagged value) = IsTagged bytes value × ((other : List ℕ) → IsText bytes other → ⊥)
+SaysTag bytes content = ⊥
+
+-- A configuration says this: a text in UTF-8, else a blob with a description. (The last bytes of many are NUL, as those of a text in UTF-16
+-- are.)
+abbrev pub SaysConfiguration : List ℕ → Content → Type 0
+SaysConfiguration bytes (text value) = IsText bytes value
+SaysConfiguration bytes (blob value) = IsDescribedBlob bytes value × ((other : List ℕ) → IsText bytes other → ⊥)
+SaysConfiguration bytes content = ⊥
+
+-- A host says this: how it keeps its guests apart, else a configuration.
+abbrev pub SaysHost : List ℕ → Content → Type 0
+SaysHost bytes (technology value) = IsTechnology bytes value
+SaysHost bytes content = SaysConfiguration bytes content × ((other : ℕ) → IsTechnology bytes other → ⊥)
 
 -- Data of this form says this.
 abbrev pub SaysIn : DataForm → List ℕ → Content → Type 0
@@ -98,12 +138,16 @@ SaysIn forms.Text bytes content = SaysText bytes content
 SaysIn forms.Version bytes content = SaysVersion bytes content
 SaysIn forms.Loader bytes content = SaysLoader bytes content
 SaysIn forms.PostCode bytes content = SaysPostCode bytes content
-SaysIn forms.Variable bytes (variable value) = IsVariable bytes value
-SaysIn forms.Image bytes (image value) = IsImage bytes value
+SaysIn forms.Variable bytes (variable value rest) = IsFollowed IsVariable bytes value rest
+SaysIn forms.Image bytes (image value rest) = IsFollowed IsImage bytes value rest
 SaysIn forms.Gpt bytes (gpt value) = IsGpt bytes value
 SaysIn forms.PlainBlob bytes (blob value) = IsPlainBlob bytes value
 SaysIn forms.DescribedBlob bytes (blob value) = IsDescribedBlob bytes value
-SaysIn forms.Tagged bytes (tagged value) = IsTagged bytes value
+SaysIn forms.Tagged bytes content = SaysTag bytes content
+SaysIn forms.Configuration bytes content = SaysConfiguration bytes content
+SaysIn forms.Host bytes content = SaysHost bytes content
+SaysIn forms.Handoff bytes (handoff value) = IsHandoff bytes value
+SaysIn forms.DescribedHandoff bytes (handoff value) = IsDescribedHandoff bytes value
 SaysIn forms.Locality bytes (locality value) = IsLocality bytes value
 SaysIn form bytes content = ⊥
 
@@ -124,10 +168,12 @@ content_of (contents.Text value) = text value.now
 content_of (contents.WideText value) = wide_text value.now
 content_of (contents.Guid value) = guid value.bytes.now
 content_of (contents.Command value) = command (command_of value)
-content_of (contents.Variable value) = variable (variable_of value)
-content_of (contents.Image value) = image (image_of value)
+content_of (contents.Variable value rest) = variable (variable_of value) rest.now
+content_of (contents.Image value rest) = image (image_of value) rest.now
 content_of (contents.Gpt value) = gpt (gpt_of value)
 content_of (contents.Blob value) = blob (blob_of value)
 content_of (contents.Tagged value) = tagged (tagged_of value)
 content_of (contents.Locality value) = locality value
+content_of (contents.Technology value) = technology value
+content_of (contents.Handoff value) = handoff (handoff_of value)
 content_of (contents.Unknown value) = unknown value.now

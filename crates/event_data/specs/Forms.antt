@@ -1,12 +1,12 @@
 -- The forms of an event's data: relations between bytes and what they say (TCG PC Client Platform Firmware Profile, version 1.05,
 -- chapter 10, 'Event Logging'; UEFI 2.10). All numbers are little endian.
-use Rattle.std.specs.Prelude.{◌≡◌, ℕ, ◌+◌, ◌*◌, ◌^◌, ◌<◌, ◌⊎◌, Bool, true, not, ◌==◌, List, [], ◌∷◌, ◌++◌, length, codes}
+use Rattle.std.specs.Prelude.{◌≡◌, ℕ, ◌+◌, ◌*◌, ◌^◌, ◌<◌, ◌⊎◌, Bool, true, false, not, ◌==◌, if◌then◌else◌, List, [], ◌∷◌, ◌++◌, length, codes}
 use Rattle.std.specs.List.{list_all}
 use Rattle.std.specs.Str.{IsUtf8}
 use Rattle.byte_fields.specs.Spelling.{number16, number32, number64}
 use Rattle.event_data.specs.declared.command.Command.{Command}
 use Rattle.event_data.specs.declared.command.CommandKind.{CommandKind}
-use Rattle.event_data.specs.declared.command.CommandKind.TheVariants.{Grub, Kernel, Module}
+use Rattle.event_data.specs.declared.command.CommandKind.TheVariants.{Grub, Kernel, Module, RedHatGrub, RedHatKernel}
 use Rattle.event_data.specs.declared.short_forms.Image.{Image}
 use Rattle.event_data.specs.declared.variable.Variable.{Variable}
 
@@ -35,11 +35,20 @@ pub record IsWideText (bytes text : List ℕ) : Type 0 where
 
 -- ---- a command of GRUB
 
--- The prefix by which GRUB tells the kind of a command (grub-core/kern/verifiers.c, commands/tpm.c).
+-- The bytes begin with what has this form, and the rest follows it.
+pub record IsFollowed {X : Type 0} (Is : List ℕ → X → Type 0) (bytes : List ℕ) (value : X) (rest : List ℕ) : Type 0 where
+  pub form : List ℕ
+  pub is : Is form value
+  pub spelled : bytes ≡ form ++ rest
+
+-- The prefix by which GRUB tells the kind of a command (grub-core/kern/verifiers.c, commands/tpm.c); and GRUB as RHEL 8 has it, 2.02 with
+-- patches of its own (grub-core/script/execute.c, grub-core/lib/cmdline.c; also go-eventlog, extract/extract.go).
 abbrev pub command_prefix : CommandKind → List ℕ
 command_prefix Grub = codes "grub_cmd: "
 command_prefix Kernel = codes "kernel_cmdline: "
 command_prefix Module = codes "module_cmdline: "
+command_prefix RedHatGrub = codes "grub_cmd "
+command_prefix RedHatKernel = codes "grub_kernel_cmdline "
 
 pub record CommandData : Type 0 where
   pub kind : CommandKind
@@ -48,6 +57,18 @@ pub record CommandData : Type 0 where
 -- The bytes are a command: the prefix of its kind, the text, and a NUL.
 pub record IsCommand (bytes : List ℕ) (command : CommandData) : Type 0 where
   pub spelled : bytes ≡ (command_prefix command.kind ++ command.text) ++ 0 ∷ []
+
+-- GRUB hashes the NUL behind such a command too: RHEL 8's does, for a command of its own.
+abbrev pub hashes_nul : CommandKind → Bool
+hashes_nul Grub = false
+hashes_nul Kernel = false
+hashes_nul Module = false
+hashes_nul RedHatGrub = true
+hashes_nul RedHatKernel = false
+
+-- The bytes whose hash GRUB extends for a command: the text, or the text and its NUL.
+abbrev pub hashed_text : CommandData → List ℕ
+hashed_text command = if hashes_nul command.kind then command.text ++ 0 ∷ [] else command.text
 
 -- ---- a node of a device path
 

@@ -3,6 +3,7 @@ pub mod Reading
 pub mod PathNodes
 pub mod Paths
 pub mod EventForms
+pub mod Certificates
 pub mod ValueForms
 pub mod ValueReading
 pub mod ValueViews
@@ -11,6 +12,10 @@ pub mod Values
 pub mod ValueContents
 pub mod Results
 pub mod Blobs
+pub mod Handoffs
+pub mod HandoffReading
+pub mod HandoffViews
+pub mod TableNames
 pub mod BlobReading
 pub mod GptForms
 pub mod GptReading

@@ -20,6 +20,10 @@ variable =
 abbrev pub variable_in : List ℕ → Option VariableData
 variable_in bytes = result_ok (whole Form variable bytes)
 
+-- The variable at the start of the bytes, and what follows it.
+abbrev pub variable_then : List ℕ → Option (VariableData × List ℕ)
+variable_then bytes = result_ok (variable.at bytes)
+
 unfoldable pub image : Format ImageData Mismatch
 image =
     mapped (λ x. record { location = x.0; size = x.1.0; link_address = x.1.1.0; path = x.1.1.1.1 })
@@ -32,6 +36,10 @@ image =
 
 abbrev pub image_in : List ℕ → Option ImageData
 image_in bytes = result_ok (whole Form image bytes)
+
+-- The image at the start of the bytes, and what follows it.
+abbrev pub image_then : List ℕ → Option (ImageData × List ℕ)
+image_then bytes = result_ok (image.at bytes)
 
 abbrev pub separator_in : List ℕ → Option ℕ
 separator_in bytes = result_ok (whole Form (number Form w32) bytes)

@@ -3,8 +3,9 @@ use Rattle.std.specs.Prelude.{ℕ, ◌-◌, ◌%◌, ◌==◌, ◌&&◌, if◌th
 use Rattle.std.specs.Option.{option_or}
 use Rattle.std.specs.Str.{is_utf8}
 use Rattle.event_data.specs.declared.command.CommandKind.{CommandKind}
-use Rattle.event_data.specs.declared.command.CommandKind.TheVariants.{Grub, Kernel, Module}
+use Rattle.event_data.specs.declared.command.CommandKind.TheVariants.{Grub, Kernel, Module, RedHatGrub, RedHatKernel}
 use Rattle.event_data.specs.Forms.{CommandData, command_prefix, has_no_nul}
+use Rattle.event_data.specs.Blobs.{reserved}
 
 -- What follows this prefix, where the bytes begin with it.
 abbrev pub after_in : List ℕ → List ℕ → Option (List ℕ)
@@ -35,8 +36,12 @@ wide_text_in bytes = option_and_then even_only (before_in (0 ∷ 0 ∷ []) bytes
 abbrev pub command_as : CommandKind → List ℕ → Option CommandData
 command_as kind line = option_map (λ text. record { kind = kind; text = text }) (after_in (command_prefix kind) line)
 
+abbrev pub red_hat_command : List ℕ → Option CommandData
+red_hat_command line = option_or (command_as RedHatGrub line) (command_as RedHatKernel line)
+
 abbrev pub any_command : List ℕ → Option CommandData
-any_command line = option_or (command_as Grub line) (option_or (command_as Kernel line) (command_as Module line))
+any_command line =
+    option_or (command_as Grub line) (option_or (command_as Kernel line) (option_or (command_as Module line) (red_hat_command line)))
 
 abbrev pub command_in : List ℕ → Option CommandData
 command_in bytes = option_and_then any_command (before_in (0 ∷ []) bytes)
@@ -45,10 +50,14 @@ command_in bytes = option_and_then any_command (before_in (0 ∷ []) bytes)
 abbrev pub guid_in : List ℕ → Option (List ℕ)
 guid_in bytes = if length bytes == 16 then Some bytes else None
 
--- A locality.
+-- A locality, and how a host of Google keeps its guests apart.
 abbrev pub one_byte : List ℕ → Option ℕ
 one_byte (byte ∷ []) = Some byte
 one_byte bytes = None
 
 abbrev pub locality_in : List ℕ → Option ℕ
 locality_in bytes = option_and_then one_byte (after_in (codes "StartupLocality" ++ 0 ∷ []) bytes)
+
+abbrev pub technology_in : List ℕ → Option ℕ
+technology_in bytes =
+    option_and_then (λ rest. option_and_then one_byte (before_in reserved rest)) (after_in (codes "GCE NonHostInfo" ++ 0 ∷ []) bytes)

@@ -3,7 +3,9 @@ use Rattle.std.specs.Prelude.{◌≡◌, ℕ, ◌⊎◌, Bool, true, false, not,
 use Rattle.std.specs.Option.{option_map_or}
 use Rattle.event_data.specs.declared.value_reader.ValueForm.{ValueForm}
 use Rattle.event_data.specs.declared.value_reader.ValueForm.TheVariants as forms
-use Rattle.event_data.specs.Forms.{VariableData}
+use Rattle.event_data.specs.Certificates.{IsCertificate, certificate_in}
+use Rattle.event_data.specs.Forms.{IsText, VariableData}
+use Rattle.event_data.specs.Results.{text_in}
 use Rattle.event_data.specs.ValueForms.{LoadOptionData, SignatureData, ListData, IsLoadOption, IsBootOrder, IsSignature, AreSignatureLists}
 use Rattle.event_data.specs.ValueReading.{load_option_in, numbers_in, signature_in, lists_in, all_taken}
 
@@ -53,7 +55,8 @@ is_option_name name = (length name == 16) && (bytes_eq (take 8 name) (wide (code
 abbrev pub is_flag : VariableData → Bool
 is_flag variable =
     is_named global_vendor (codes "SecureBoot") variable || (is_named global_vendor (codes "SetupMode") variable
-    || (is_named global_vendor (codes "AuditMode") variable || is_named global_vendor (codes "DeployedMode") variable))
+    || (is_named global_vendor (codes "AuditMode") variable || (is_named global_vendor (codes "DeployedMode") variable
+    || is_named shim_vendor (codes "MokListTrusted") variable)))
 
 abbrev pub is_order : VariableData → Bool
 is_order variable = is_named global_vendor (codes "BootOrder") variable
@@ -67,8 +70,16 @@ is_lists variable =
     || (is_named image_security_vendor (codes "db") variable || (is_named image_security_vendor (codes "dbx") variable
     || (is_named shim_vendor (codes "MokList") variable || is_named shim_vendor (codes "MokListX") variable))))
 
+-- The certificate that shim was built with (shim, shim.c: a variable in an event alone).
+abbrev pub is_own_certificate : VariableData → Bool
+is_own_certificate variable = is_named shim_vendor (codes "Shim") variable
+
+-- The levels below which shim lets no component run (shim, SBAT.md).
+abbrev pub is_level : VariableData → Bool
+is_level variable = is_named shim_vendor (codes "SbatLevel") variable
+
 -- The signature that allowed an image, in an event EV_EFI_VARIABLE_AUTHORITY (TCG PC Client Platform Firmware Profile, version 1.05,
--- section 10.4.1).
+-- section 10.4.1); shim leaves out its owner.
 abbrev pub is_authority : ℕ → VariableData → Bool
 is_authority kind variable =
     (kind == 0x800000e0)
@@ -82,6 +93,8 @@ value_form kind variable =
     else if is_order variable then forms.Order
     else if is_load_option variable then forms.LoadOption
     else if is_lists variable then forms.Lists
+    else if is_own_certificate variable then forms.Certificate
+    else if is_level variable then forms.Level
     else forms.Other
 
 -- ---- what values say
@@ -92,6 +105,8 @@ pub data ValueSays : Type 0 where
   option : LoadOptionData → ValueSays
   lists : List ListData → ValueSays
   signature : SignatureData → ValueSays
+  certificate : List ℕ → ValueSays
+  level : List ℕ → ValueSays
   unknown : ValueSays
 
 -- A value of this form says this.
@@ -100,7 +115,10 @@ ValueSaysIn forms.Flag bytes (flag value) = bytes ≡ value ∷ []
 ValueSaysIn forms.Order bytes (order numbers) = IsBootOrder bytes numbers
 ValueSaysIn forms.LoadOption bytes (option value) = IsLoadOption bytes value
 ValueSaysIn forms.Lists bytes (lists values) = AreSignatureLists bytes values
-ValueSaysIn forms.Signature bytes (signature value) = IsSignature bytes value
+ValueSaysIn forms.Signature bytes (certificate value) = IsCertificate bytes value
+ValueSaysIn forms.Signature bytes (signature value) = IsSignature bytes value × ((other : List ℕ) → IsCertificate bytes other → ⊥)
+ValueSaysIn forms.Certificate bytes (certificate value) = IsCertificate bytes value
+ValueSaysIn forms.Level bytes (level value) = IsText bytes value
 ValueSaysIn form bytes says = ⊥
 
 -- The variable's value, in an event of this type, has the form that it has by vendor and name, and says this.
@@ -118,12 +136,18 @@ abbrev pub flag_says : List ℕ → ValueSays
 flag_says (value ∷ []) = flag value
 flag_says bytes = unknown
 
+-- A certificate, else a signature.
+abbrev pub authority_says : List ℕ → ValueSays
+authority_says bytes = option_map_or certificate (certificate_in bytes) (option_map_or signature (signature_in bytes) unknown)
+
 abbrev pub says_in : ValueForm → List ℕ → ValueSays
 says_in forms.Flag bytes = flag_says bytes
 says_in forms.Order bytes = option_map_or order (all_taken (numbers_in bytes)) unknown
 says_in forms.LoadOption bytes = option_map_or option (load_option_in bytes) unknown
 says_in forms.Lists bytes = option_map_or lists (all_taken (lists_in bytes)) unknown
-says_in forms.Signature bytes = option_map_or signature (signature_in bytes) unknown
+says_in forms.Signature bytes = authority_says bytes
+says_in forms.Certificate bytes = option_map_or certificate (certificate_in bytes) unknown
+says_in forms.Level bytes = option_map_or level (text_in bytes) unknown
 says_in forms.Other bytes = unknown
 
 -- What the variable's value says, in an event of this type.

@@ -2,17 +2,20 @@
 
 ghost use Rattle.std.specs.Prelude.{◌≡◌, option_map};
 ghost use Rattle.event_data.specs.EventForms.{form_of, Says, content_of};
-ghost use Rattle.event_data.specs.ContentReading.{content_in, form_content, loader_content, post_code_content, text_content, version_content};
+ghost use Rattle.event_data.specs.declared.content.DataForm.TheVariants as forms;
+ghost use Rattle.event_data.specs.ContentReading.{configuration_content, content_in, form_content, host_content, loader_content, long_text_content, post_code_content, tag_content, text_and_nul_content, text_content, version_content};
 
 use crate::command::{Command, read_command};
 use crate::gpt::Gpt;
 use crate::gpt_reader::read_gpt;
+use crate::handoff::Handoff;
+use crate::handoff_reader::{read_described_handoff, read_handoff};
 use crate::short_forms::{
-    Blob, Guid, Image, Tagged, read_described_blob, read_guid, read_image, read_locality,
-    read_plain_blob, read_tagged,
+    Blob, Guid, Image, Tagged, read_described_blob, read_guid, read_image_then, read_locality,
+    read_plain_blob, read_tagged, read_technology,
 };
-use crate::text::{read_separator, read_text, read_wide_text};
-use crate::value_reader::read_variable;
+use crate::text::{before_suffix, read_separator, read_text, read_wide_text};
+use crate::value_reader::read_variable_then;
 use crate::variable::Variable;
 
 /// A form of an event's data.
@@ -24,13 +27,13 @@ pub enum DataForm {
     Text,
     /// A text, in UTF-8 or UTF-16, or a GUID.
     Version,
-    /// What a boot loader measured: a command of GRUB, or a text in UTF-8 or UTF-16.
+    /// What a boot loader measured: a command of GRUB, or a text in UTF-8 or UTF-16, and then a NUL more or none.
     Loader,
     /// A text in UTF-8, or a blob without a description.
     PostCode,
-    /// A UEFI variable.
+    /// A UEFI variable, and then any bytes.
     Variable,
-    /// An image that was loaded.
+    /// An image that was loaded, and then any bytes.
     Image,
     /// A disk's table of partitions.
     Gpt,
@@ -38,8 +41,16 @@ pub enum DataForm {
     PlainBlob,
     /// A blob of firmware with a description.
     DescribedBlob,
-    /// A tagged event.
+    /// A text in UTF-8, or a tagged event.
     Tagged,
+    /// A text in UTF-8, or a blob with a description.
+    Configuration,
+    /// How a host keeps its guests apart, or a configuration.
+    Host,
+    /// Vendor tables that firmware hands over, without a description.
+    Handoff,
+    /// Vendor tables that firmware hands over, with a description.
+    DescribedHandoff,
     /// The locality of the startup command.
     Locality,
     /// No form that is known here.
@@ -57,7 +68,10 @@ pub fn form_of(kind: u32) -> DataForm
         0x0000_0006 => DataForm::Tagged,
         0x0000_0008 => DataForm::Version,
         0x0000_000D => DataForm::Loader,
+        0x0000_0011 => DataForm::Host,
         0x8000_0008 => DataForm::PlainBlob,
+        0x8000_0009 => DataForm::Handoff,
+        0x8000_000B => DataForm::DescribedHandoff,
         0x0000_0005 | 0x0000_0007 | 0x0000_000C | 0x0000_0012 | 0x8000_0007 | 0x8000_0010 => {
             DataForm::Text
         }
@@ -67,6 +81,9 @@ pub fn form_of(kind: u32) -> DataForm
         0x8000_0003 | 0x8000_0004 | 0x8000_0005 => DataForm::Image,
         0x8000_0006 | 0x8000_000D => DataForm::Gpt,
         0x0000_0013 | 0x8000_000A => DataForm::DescribedBlob,
+        0x0000_0009 | 0x0000_000A | 0x0000_000B | 0x0000_000F | 0x0000_0010 => {
+            DataForm::Configuration
+        }
         _ => DataForm::Other,
     }
 }
@@ -84,10 +101,10 @@ pub enum EventContent<'a> {
     Guid(Guid<'a>),
     /// A command that GRUB measured.
     Command(Command<'a>),
-    /// A UEFI variable.
-    Variable(Variable<'a>),
-    /// An image that was loaded.
-    Image(Image<'a>),
+    /// A UEFI variable, and the bytes behind it.
+    Variable(Variable<'a>, &'a [u8]),
+    /// An image that was loaded, and the bytes behind it.
+    Image(Image<'a>, &'a [u8]),
     /// A disk's table of partitions.
     Gpt(Gpt<'a>),
     /// A blob of firmware.
@@ -96,6 +113,10 @@ pub enum EventContent<'a> {
     Tagged(Tagged<'a>),
     /// The locality from which the TPM was started.
     Locality(u8),
+    /// How a host of Google keeps its guests apart ([`crate::read_technology`]).
+    Technology(u8),
+    /// Vendor tables that firmware hands over.
+    Handoff(Handoff<'a>),
     /// Data of no form that is known for the type.
     Unknown(&'a [u8]),
 }
@@ -120,14 +141,77 @@ fn version_content(bytes: &[u8]) -> Option<EventContent<'_>>
     Some(EventContent::Guid(read_guid(bytes)?))
 }
 
-// What a boot loader measured: a command, else a text of either kind.
+// A text of either kind, and a NUL more.
+fn text_and_nul_content(bytes: &[u8]) -> Option<EventContent<'_>>
+    ensures { option_map content_of result ≡ text_and_nul_content bytes.now }
+{
+    text_content(before_suffix(&[0], bytes)?)
+}
+
+// A text of either kind, else one with a NUL more.
+fn long_text_content(bytes: &[u8]) -> Option<EventContent<'_>>
+    ensures { option_map content_of result ≡ long_text_content bytes.now }
+{
+    if let Some(content) = text_content(bytes) {
+        return Some(content);
+    }
+    text_and_nul_content(bytes)
+}
+
+// What a boot loader measured: a command, else a text of either kind, and a NUL more or none.
 fn loader_content(bytes: &[u8]) -> Option<EventContent<'_>>
     ensures { option_map content_of result ≡ loader_content bytes.now }
 {
     if let Some(command) = read_command(bytes) {
         return Some(EventContent::Command(command));
     }
-    text_content(bytes)
+    long_text_content(bytes)
+}
+
+// A text in UTF-8, else a tagged event.
+fn tag_content(bytes: &[u8]) -> Option<EventContent<'_>>
+    ensures { option_map content_of result ≡ tag_content bytes.now }
+{
+    if let Some(text) = read_text(bytes) {
+        return Some(EventContent::Text(text));
+    }
+    Some(EventContent::Tagged(read_tagged(bytes)?))
+}
+
+// A text in UTF-8, else a blob with a description.
+fn configuration_content(bytes: &[u8]) -> Option<EventContent<'_>>
+    ensures { option_map content_of result ≡ configuration_content bytes.now }
+{
+    if let Some(text) = read_text(bytes) {
+        return Some(EventContent::Text(text));
+    }
+    Some(EventContent::Blob(read_described_blob(bytes)?))
+}
+
+// How a host keeps its guests apart, else a configuration.
+fn host_content(bytes: &[u8]) -> Option<EventContent<'_>>
+    ensures { option_map content_of result ≡ host_content bytes.now }
+{
+    if let Some(technology) = read_technology(bytes) {
+        return Some(EventContent::Technology(technology));
+    }
+    configuration_content(bytes)
+}
+
+// The variable at the start of the bytes, and what is behind it.
+fn variable_content(bytes: &[u8]) -> Option<EventContent<'_>>
+    ensures { option_map content_of result ≡ form_content forms.Variable bytes.now }
+{
+    let (variable, rest) = read_variable_then(bytes)?;
+    Some(EventContent::Variable(variable, rest))
+}
+
+// The image at the start of the bytes, and what is behind it.
+fn image_content(bytes: &[u8]) -> Option<EventContent<'_>>
+    ensures { option_map content_of result ≡ form_content forms.Image bytes.now }
+{
+    let (image, rest) = read_image_then(bytes)?;
+    Some(EventContent::Image(image, rest))
 }
 
 // A POST code: a text in UTF-8, else a blob.
@@ -150,18 +234,23 @@ fn form_content(form: DataForm, bytes: &[u8]) -> Option<EventContent<'_>>
         DataForm::Version => version_content(bytes),
         DataForm::Loader => loader_content(bytes),
         DataForm::PostCode => post_code_content(bytes),
-        DataForm::Variable => Some(EventContent::Variable(read_variable(bytes)?)),
-        DataForm::Image => Some(EventContent::Image(read_image(bytes)?)),
+        DataForm::Variable => variable_content(bytes),
+        DataForm::Image => image_content(bytes),
         DataForm::Gpt => Some(EventContent::Gpt(read_gpt(bytes)?)),
         DataForm::PlainBlob => Some(EventContent::Blob(read_plain_blob(bytes)?)),
         DataForm::DescribedBlob => Some(EventContent::Blob(read_described_blob(bytes)?)),
-        DataForm::Tagged => Some(EventContent::Tagged(read_tagged(bytes)?)),
+        DataForm::Tagged => tag_content(bytes),
+        DataForm::Configuration => configuration_content(bytes),
+        DataForm::Host => host_content(bytes),
+        DataForm::Handoff => Some(EventContent::Handoff(read_handoff(bytes)?)),
+        DataForm::DescribedHandoff => Some(EventContent::Handoff(read_described_handoff(bytes)?)),
         DataForm::Locality => Some(EventContent::Locality(read_locality(bytes)?)),
         DataForm::Other => None,
     }
 }
 
-/// What the data of an event of this type says: it has exactly the form that the type's data has, or it is unknown.
+/// What the data of an event of this type says: it has the form that the type's data has, or it is unknown. Bytes may follow a variable and
+/// an image alone.
 pub fn event_content(kind: u32, bytes: &[u8]) -> EventContent<'_>
     ensures value { content_of result ≡ content_in kind bytes.now }
     ensures says { Says kind bytes.now (content_of result) }

@@ -1,16 +1,16 @@
-//! Data of a few fields: a GUID, the locality of the startup command, a tagged event, a blob of firmware that was measured, and an image that
-//! the firmware loaded.
+//! Data of a few fields: a GUID, the locality of the startup command, what a host says, a tagged event, a blob of firmware that was measured,
+//! and an image that the firmware loaded.
 
-ghost use Rattle.std.specs.Prelude.{◌≡◌, length, ℕ, List, Some, IfSome, option_map};
+ghost use Rattle.std.specs.Prelude.{◌≡◌, length, ℕ, List, Some, IfSome, option_and_then, option_map};
 ghost use Rattle.byte_fields.specs.Reading.{Reads};
-ghost use Rattle.event_data.specs.Blobs.{IsGuid, IsLocality, TaggedData, IsTagged, tagged_of, BlobData, IsPlainBlob, IsDescribedBlob, blob_of};
-ghost use Rattle.event_data.specs.Results.{guid_in, locality_in};
+ghost use Rattle.event_data.specs.Blobs.{IsGuid, IsLocality, IsTechnology, reserved, TaggedData, IsTagged, tagged_of, BlobData, IsPlainBlob, IsDescribedBlob, blob_of};
+ghost use Rattle.event_data.specs.Results.{before_in, guid_in, locality_in, one_byte, technology_in};
 ghost use Rattle.event_data.specs.BlobReading.{tagged, tagged_in, place, plain_blob, described_blob, plain_blob_in, described_blob_in};
-ghost use Rattle.event_data.specs.Forms.{ImageData, IsImage, image_of};
-ghost use Rattle.event_data.specs.Reading.{image, image_in};
+ghost use Rattle.event_data.specs.Forms.{ImageData, IsFollowed, IsImage, image_of};
+ghost use Rattle.event_data.specs.Reading.{image, image_in, image_then};
 
 use crate::content::Mismatch;
-use crate::text::after_prefix;
+use crate::text::{after_prefix, before_suffix};
 use byte_fields::{part_at, sized_at, u8_at, u32_at, u64_at};
 
 /// A GUID, 16 bytes (UEFI 2.10, appendix A).
@@ -43,6 +43,29 @@ pub fn read_locality(bytes: &[u8]) -> Option<u8>
     match after_prefix(b"StartupLocality\0", bytes) {
         Some([locality]) => Some(*locality),
         _ => None,
+    }
+}
+
+// The byte before reserved bytes.
+fn before_reserved(bytes: &[u8]) -> Option<u8>
+    ensures { result ≡ option_and_then one_byte (before_in reserved bytes.now) }
+{
+    match before_suffix(b"\0\0\0\0\0\0\0\0\0\0\0\0\0\0\0", bytes) {
+        Some([technology]) => Some(*technology),
+        _ => None,
+    }
+}
+
+/// How a host of Google keeps its guests apart, as the bytes tell (go-eventlog, `ParseGCENonHostInfo`): 0 for nothing, 1 for AMD SEV, 2 for
+/// AMD SEV-ES, 3 for Intel TDX, 4 for AMD SEV-SNP; `None` where they tell none.
+pub fn read_technology(bytes: &[u8]) -> Option<u8>
+    ensures value { result ≡ technology_in bytes.now }
+    ensures found { IfSome result (IsTechnology bytes.now) }
+    ensures only { (value : ℕ) → IsTechnology bytes.now value → result ≡ Some value }
+{
+    match after_prefix(b"GCE NonHostInfo\0", bytes) {
+        Some(rest) => before_reserved(rest),
+        None => None,
     }
 }
 
@@ -193,5 +216,18 @@ pub fn read_image(bytes: &[u8]) -> Option<Image<'_>>
     match image_at(bytes) {
         Ok((image, rest)) if rest.is_empty() => Some(image),
         _ => None,
+    }
+}
+
+/// The image at the start of the bytes, and the bytes behind it; `None` where they begin with none.
+pub fn read_image_then(bytes: &[u8]) -> Option<(Image<'_>, &[u8])>
+    ensures value { option_map (λ x. (image_of x.0, x.1.now)) result ≡ image_then bytes.now }
+    ensures found { IfSome result (λ x. IsFollowed IsImage bytes.now (image_of x.0) x.1.now) }
+    ensures only { (value : ImageData) (rest : List ℕ) → IsFollowed IsImage bytes.now value rest
+        → option_map {U = ImageData × List ℕ} (λ x. (image_of x.0, x.1.now)) result ≡ Some (value, rest) }
+{
+    match image_at(bytes) {
+        Ok((image, rest)) => Some((image, rest)),
+        Err(_) => None,
     }
 }

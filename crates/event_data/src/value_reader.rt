@@ -1,21 +1,23 @@
 //! The readers of variables, of the signatures in them and of their values: the form of a value, by vendor and name, and what it says.
 
-ghost use Rattle.std.specs.Prelude.{◌≡◌, ◌*◌, Some, IfSome, option_map, ◌≤◌, [], length, ◌&&◌, bytes_eq, ◌==◌, ◌⊎◌};
+ghost use Rattle.std.specs.Prelude.{◌≡◌, ◌*◌, ℕ, List, Some, IfSome, option_map, ◌≤◌, [], length, ◌&&◌, bytes_eq, ◌==◌, ◌⊎◌};
 ghost use Rattle.byte_fields.specs.Reading.{Reads, part_at};
-ghost use Rattle.event_data.specs.Forms.{IsVariable, VariableData, variable_of};
-ghost use Rattle.event_data.specs.Reading.{variable, variable_in};
+ghost use Rattle.event_data.specs.Certificates.{IsCertificate, certificate_in, der_content, is_content};
+ghost use Rattle.event_data.specs.Forms.{IsFollowed, IsVariable, VariableData, variable_of};
+ghost use Rattle.event_data.specs.Reading.{variable, variable_in, variable_then};
 ghost use Rattle.event_data.specs.declared.content.Mismatch.TheVariants.{Form};
 ghost use Rattle.event_data.specs.ValueForms.{IsSignature, SignatureData};
 ghost use Rattle.event_data.specs.ValueReading.{signature, signature_in, signature_list, lists_in};
 ghost use Rattle.event_data.specs.ValueViews.{signature_of, list_of};
-ghost use Rattle.event_data.specs.Values.{are_digits, is_authority, is_digit, is_flag, is_lists, is_load_option, is_option_name, is_order, value_form, SaysValue, ValueSays, ValueSaysIn, says_in, unknown, value_in};
-ghost use Rattle.event_data.specs.declared.value_reader.ValueForm.TheVariants.{Lists, Order};
+ghost use Rattle.event_data.specs.Values.{are_digits, is_authority, is_digit, is_flag, is_level, is_lists, is_load_option, is_option_name, is_order, is_own_certificate, value_form, SaysValue, ValueSays, ValueSaysIn, says_in, unknown, value_in};
+ghost use Rattle.event_data.specs.declared.value_reader.ValueForm.TheVariants as forms;
 ghost use Rattle.event_data.specs.ValueContents.{says_of};
 
 use crate::content::Mismatch;
 use crate::load_option::{BootOrder, LoadOption, read_load_option};
+use crate::text::{after_prefix, read_text};
 use crate::variable::{Signature, SignatureList, SignatureLists, Variable};
-use byte_fields::{part_at, u32_at, u64_at};
+use byte_fields::{big_endian_u16_at, part_at, u32_at, u64_at};
 
 /// A form of a variable's value.
 #[derive(Clone, Copy)]
@@ -28,8 +30,12 @@ pub enum ValueForm {
     LoadOption,
     /// Lists of signatures.
     Lists,
-    /// One signature.
+    /// One certificate, or one signature.
     Signature,
+    /// One certificate.
+    Certificate,
+    /// The levels of SBAT: a text.
+    Level,
     /// No form that is known here.
     Other,
 }
@@ -47,6 +53,10 @@ pub enum ValueContent<'a> {
     Lists(SignatureLists<'a>),
     /// The signature that allowed an image.
     Signature(Signature<'a>),
+    /// A certificate, in DER, that allowed an image, or that shim was built with.
+    Certificate(&'a [u8]),
+    /// The levels of SBAT, one in a line (shim, SBAT.md).
+    Level(&'a str),
     /// A value of no form that is known for the variable.
     Unknown,
 }
@@ -86,6 +96,19 @@ pub fn read_variable(bytes: &[u8]) -> Option<Variable<'_>>
     }
 }
 
+/// The variable at the start of the bytes, and the bytes behind it; `None` where they begin with none.
+pub fn read_variable_then(bytes: &[u8]) -> Option<(Variable<'_>, &[u8])>
+    ensures value { option_map (λ x. (variable_of x.0, x.1.now)) result ≡ variable_then bytes.now }
+    ensures found { IfSome result (λ x. IsFollowed IsVariable bytes.now (variable_of x.0) x.1.now) }
+    ensures only { (value : VariableData) (rest : List ℕ) → IsFollowed IsVariable bytes.now value rest
+        → option_map {U = VariableData × List ℕ} (λ x. (variable_of x.0, x.1.now)) result ≡ Some (value, rest) }
+{
+    match variable_at(bytes) {
+        Ok((variable, rest)) => Some((variable, rest)),
+        Err(_) => None,
+    }
+}
+
 /// Reads the signature of this size at the start of the bytes. Returns it and the remaining bytes.
 #[tactic(auto, unfolding(crate::specs::ValueReading::signature))]
 pub(crate) fn signature_at(size: usize, bytes: &[u8]) -> Result<(Signature<'_>, &[u8]), Mismatch>
@@ -106,6 +129,41 @@ pub fn read_signature(bytes: &[u8]) -> Option<Signature<'_>>
     match part_at(Mismatch::Form, 16, bytes) {
         Ok((owner, payload)) => Some(Signature { owner, payload }),
         Err(_) => None,
+    }
+}
+
+// Reads the length of a SEQUENCE, in two bytes, and so many bytes. Returns these and the remaining bytes.
+#[tactic(auto, unfolding(crate::specs::Certificates::der_content))]
+fn der_content_at(bytes: &[u8]) -> Result<(&[u8], &[u8]), Mismatch>
+    ensures { Reads (λ x. (x.0.now, x.1.now)) result (der_content.at bytes.now) }
+{
+    let (size, rest) = big_endian_u16_at(Mismatch::Form, bytes)?;
+    if size < 256 {
+        return Err(Mismatch::Form);
+    }
+    part_at(Mismatch::Form, size as usize, rest)
+}
+
+// Whether the bytes are the length and the content of a SEQUENCE.
+fn are_content(bytes: &[u8]) -> bool
+    ensures { result ≡ is_content bytes.now }
+{
+    match der_content_at(bytes) {
+        Ok((_, left)) if left.is_empty() => true,
+        _ => false,
+    }
+}
+
+/// The certificate that the bytes are, as far as its outermost form tells: a SEQUENCE in DER of 256 bytes to 64 KiB (RFC 5280, section 4.1);
+/// `None` where they are none.
+pub fn read_certificate(bytes: &[u8]) -> Option<&[u8]>
+    ensures value { option_map (λ x. x.now) result ≡ certificate_in bytes.now }
+    ensures found { IfSome result (λ x. IsCertificate bytes.now x.now) }
+    ensures only { (value : List ℕ) → IsCertificate bytes.now value → option_map (λ x. x.now) result ≡ Some value }
+{
+    match after_prefix(&[0x30, 0x82], bytes) {
+        Some(rest) if are_content(rest) => Some(bytes),
+        _ => None,
     }
 }
 
@@ -196,6 +254,11 @@ fn is_flag(variable: &Variable<'_>) -> bool
         || is_named(&GLOBAL, b"S\0e\0t\0u\0p\0M\0o\0d\0e\0", variable)
         || is_named(&GLOBAL, b"A\0u\0d\0i\0t\0M\0o\0d\0e\0", variable)
         || is_named(&GLOBAL, b"D\0e\0p\0l\0o\0y\0e\0d\0M\0o\0d\0e\0", variable)
+        || is_named(
+            &SHIM,
+            b"M\0o\0k\0L\0i\0s\0t\0T\0r\0u\0s\0t\0e\0d\0",
+            variable,
+        )
 }
 
 fn is_order(variable: &Variable<'_>) -> bool
@@ -221,6 +284,18 @@ fn is_lists(variable: &Variable<'_>) -> bool
         || is_named(&SHIM, b"M\0o\0k\0L\0i\0s\0t\0X\0", variable)
 }
 
+fn is_own_certificate(variable: &Variable<'_>) -> bool
+    ensures { result ≡ is_own_certificate (variable_of variable.now) }
+{
+    is_named(&SHIM, b"S\0h\0i\0m\0", variable)
+}
+
+fn is_level(variable: &Variable<'_>) -> bool
+    ensures { result ≡ is_level (variable_of variable.now) }
+{
+    is_named(&SHIM, b"S\0b\0a\0t\0L\0e\0v\0e\0l\0", variable)
+}
+
 fn is_authority(kind: u32, variable: &Variable<'_>) -> bool
     ensures { result ≡ is_authority kind (variable_of variable.now) }
 {
@@ -244,6 +319,10 @@ pub fn value_form(kind: u32, variable: &Variable<'_>) -> ValueForm
         ValueForm::LoadOption
     } else if is_lists(variable) {
         ValueForm::Lists
+    } else if is_own_certificate(variable) {
+        ValueForm::Certificate
+    } else if is_level(variable) {
+        ValueForm::Level
     } else {
         ValueForm::Other
     }
@@ -260,7 +339,7 @@ fn are_lists(bytes: &[u8]) -> bool
 
 // The numbers of load options that the bytes are.
 fn order_content(bytes: &[u8]) -> ValueContent<'_>
-    ensures { says_of result ≡ says_in Order bytes.now }
+    ensures { says_of result ≡ says_in forms.Order bytes.now }
 {
     if bytes.len() % 2 != 0 {
         return ValueContent::Unknown;
@@ -270,12 +349,45 @@ fn order_content(bytes: &[u8]) -> ValueContent<'_>
 
 // The lists of signatures that the bytes are.
 fn lists_content(bytes: &[u8]) -> ValueContent<'_>
-    ensures { says_of result ≡ says_in Lists bytes.now }
+    ensures { says_of result ≡ says_in forms.Lists bytes.now }
 {
     if !are_lists(bytes) {
         return ValueContent::Unknown;
     }
     ValueContent::Lists(SignatureLists::new(bytes))
+}
+
+// The certificate that the bytes are, else the signature.
+fn authority_content(bytes: &[u8]) -> ValueContent<'_>
+    ensures { says_of result ≡ says_in forms.Signature bytes.now }
+{
+    if let Some(certificate) = read_certificate(bytes) {
+        return ValueContent::Certificate(certificate);
+    }
+    match read_signature(bytes) {
+        Some(signature) => ValueContent::Signature(signature),
+        None => ValueContent::Unknown,
+    }
+}
+
+// The certificate that the bytes are.
+fn certificate_content(bytes: &[u8]) -> ValueContent<'_>
+    ensures { says_of result ≡ says_in forms.Certificate bytes.now }
+{
+    match read_certificate(bytes) {
+        Some(certificate) => ValueContent::Certificate(certificate),
+        None => ValueContent::Unknown,
+    }
+}
+
+// The levels that the bytes are.
+fn level_content(bytes: &[u8]) -> ValueContent<'_>
+    ensures { says_of result ≡ says_in forms.Level bytes.now }
+{
+    match read_text(bytes) {
+        Some(level) => ValueContent::Level(level),
+        None => ValueContent::Unknown,
+    }
 }
 
 // What a value of this form says.
@@ -295,10 +407,9 @@ fn content_in(form: ValueForm, bytes: &[u8]) -> ValueContent<'_>
             None => ValueContent::Unknown,
         },
         ValueForm::Lists => lists_content(bytes),
-        ValueForm::Signature => match read_signature(bytes) {
-            Some(signature) => ValueContent::Signature(signature),
-            None => ValueContent::Unknown,
-        },
+        ValueForm::Signature => authority_content(bytes),
+        ValueForm::Certificate => certificate_content(bytes),
+        ValueForm::Level => level_content(bytes),
         ValueForm::Other => ValueContent::Unknown,
     }
 }

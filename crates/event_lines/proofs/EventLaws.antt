@@ -1,5 +1,5 @@
 -- An event's line is one line, and has no member `fault`; likewise the header's.
-use Rattle.std.proofs.Common.{◌≡◌, ℕ, arith, List, [], ◌∷◌, Option, Some, None, codes, refl}
+use Rattle.std.proofs.Common.{◌≡◌, ℕ, arith, List, [], ◌∷◌, length, Option, Some, None, codes, refl}
 use Rattle.std.specs.Prelude.{IfSome, flat_map}
 use Rattle.std.specs.List.{AllByRecursion}
 use Rattle.hex.specs.Hex.{IsBytes}
@@ -19,10 +19,15 @@ use Rattle.cells.specs.Values.{IsCount, IsOneLine, items_of, members_of}
 use Rattle.cells.proofs.FaultMemberLaws.{AreOther, lacks, others_joined}
 use Rattle.cells.proofs.LineLaws.{ArePlain, IsPlain, ItemsArePlain, line_within, members_joined, one_line}
 use Rattle.event_lines.specs.ContentJson.{content_json}
-use Rattle.event_lines.specs.EventCells.{algorithm_cell, confirmed_cell, digest_cell, head_cell, mark_cell, name_cell, part_cell, specification_cell, type_cell}
+use Rattle.event_lines.specs.EventCells.{algorithm_cell, confirmed_cell, digest_cell, mark_cell, name_cell, named_head_cell, part_cell, specification_cell, type_cell}
+use Rattle.event_lines.specs.BriefJson.{brief_content_json}
 use Rattle.event_lines.specs.EventJson.{event_json, header_json}
+use Rattle.event_lines.specs.RegisterNames.{register_cell}
+use Rattle.event_lines.proofs.BriefLaws.{brief_content_plain}
+use Rattle.event_lines.proofs.RegisterNameLaws.{register_other, register_plain}
 use Rattle.event_lines.proofs.ContentLaws.{content_plain}
 use Rattle.event_lines.proofs.CountLaws.{content_counted}
+use Rattle.event_lines.proofs.RestLaws.{rest_counted}
 
 -- ---- an event is one line
 
@@ -32,10 +37,13 @@ type_plain kind None fits = ((kind, fits, refl), tt)
 type_plain kind (Some name) fits = (tt, ((kind, fits, refl), tt))
 
 head_plain : (number : ℕ) (event : LogEvent) → IsCount number → IsCount event.register → IsCount event.kind
-    → ArePlain (head_cell number event).json 6
+    → ArePlain (named_head_cell number event).json 6
 unfolding beside
-head_plain number event count register kind =
-    ((number, count, refl), ((event.register, register, refl), type_plain event.kind (event_type_name event.kind) kind))
+head_plain number event count register kind = (
+  (number, count, refl),
+  members_joined 6 (register_cell (codes " ") event.register).json _ (register_plain 6 (codes " ") event.register register)
+      (type_plain event.kind (event_type_name event.kind) kind),
+)
 
 digest_plain : (alg : Alg) (digest : Option (List ℕ)) → ArePlain (digest_cell alg digest).json 5
 unfolding beside
@@ -75,7 +83,7 @@ pub event_one_line : (matched : Option (List Pcr)) (number : ℕ) (event : LogEv
 unfolding beside each
 event_one_line matched number event count register kind fits =
     line_within 7 (event_json matched number event) (omega arith)
-    (members_joined 6 (head_cell number event).json _ (head_plain number event count register kind) (
+    (members_joined 6 (named_head_cell number event).json _ (head_plain number event count register kind) (
       digests_plain event.digests all_algs,
       (
         tt,
@@ -86,6 +94,11 @@ event_one_line matched number event count register kind fits =
 pub content_one_line : (kind : ℕ) (bytes : List ℕ) → IsBytes bytes → IsOneLine (content_json kind (content_in kind bytes))
 content_one_line kind bytes fits =
     line_within 6 (content_json kind (content_in kind bytes)) (omega arith) (content_is_plain kind bytes fits)
+
+pub brief_one_line : (kind : ℕ) (bytes : List ℕ) → IsBytes bytes → IsCount (length bytes) → IsOneLine (brief_content_json kind (content_in kind bytes))
+brief_one_line kind bytes fits size =
+    line_within 6 (brief_content_json kind (content_in kind bytes)) (omega arith)
+    (brief_content_plain kind (content_in kind bytes) (content_counted kind bytes fits) (rest_counted kind bytes fits size))
 
 -- ---- the header is one line
 
@@ -152,4 +165,8 @@ unfolding beside
 event_lacks matched number event =
     let marks = others_joined (mark_cell matched event).json _ (mark_other matched event) (refl, tt) in
     lacks (event_json matched number event) refl
-    (others_joined (head_cell number event).json _ (refl, (refl, type_other event.kind (event_type_name event.kind))) (refl, (refl, marks)))
+    (others_joined (named_head_cell number event).json _ (
+      refl,
+      others_joined (register_cell (codes " ") event.register).json _ (register_other (codes " ") event.register)
+          (type_other event.kind (event_type_name event.kind)),
+    ) (refl, (refl, marks)))

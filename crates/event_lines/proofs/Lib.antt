@@ -1,4 +1,8 @@
+pub mod CertificateLaws
 pub mod ContentLaws
+pub mod BriefLaws
+pub mod RestLaws
+pub mod RegisterNameLaws
 pub mod CountLaws
 pub mod EventLaws
 pub mod EventTextLaws

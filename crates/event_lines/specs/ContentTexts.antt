@@ -1,5 +1,5 @@
 -- Texts, GUIDs, device paths and addresses as JSON.
-use Rattle.std.specs.Prelude.{ℕ, List, codes, Option, Some, None}
+use Rattle.std.specs.Prelude.{ℕ, ◌==◌, if◌then◌else◌, List, [], ◌∷◌, codes, length, Option, Some, None}
 use Rattle.json.specs.Json.{Json, string}
 use Rattle.event_texts.specs.Guids.{guid_text}
 use Rattle.event_texts.specs.Numbers.{hex_number}
@@ -19,6 +19,10 @@ wide_member name hex_name bytes = text_or_hex name hex_name bytes (wide.wide_tex
 -- Bytes that are a device path, mostly.
 abbrev pub path_member : List ℕ → Member
 path_member bytes = text_or_hex (codes "path") (codes "path_hex") bytes (path_text bytes)
+
+-- The bytes behind a form, if there are any.
+abbrev pub rest_members : List ℕ → List Member
+rest_members rest = if length rest == 0 then [] else (codes "rest", hex_json rest) ∷ []
 
 abbrev pub guid_json : List ℕ → Json
 guid_json guid = string (guid_text guid)

@@ -1,8 +1,11 @@
 pub mod SteeringTexts
 pub mod ContentTexts
+pub mod RegisterNames
+pub mod Certificates
 pub mod ValueJson
 pub mod VariableJson
 pub mod ContentJson
+pub mod BriefJson
 pub mod EventCells
 pub mod EventJson
 pub mod EventTexts

@@ -2,20 +2,20 @@
 //! and addresses.
 
 ghost use Rattle.std.specs.Prelude.{[], ◌∷◌, ◌≡◌, ◌++◌, codes, option_map, OnOk, map};
-ghost use Rattle.event_data.specs.Names.{blob_of, command_of, content_in, content_of, gpt_of, image_of, partition_of, tagged_of, text_in};
+ghost use Rattle.event_data.specs.Names.{blob_of, command_of, content_in, content_of, gpt_of, handoff_of, image_of, partition_of, table_name, table_of, tables_of, tagged_of, text_in};
 ghost use Rattle.cells.specs.Writing.{WritesMembers, WritesValue, WritesItems};
 ghost use Rattle.cells.specs.Cells.{ShowsMembers};
 ghost use Rattle.cells.specs.Values.{line_of};
 ghost use Rattle.event_lines.specs.ContentTexts.{address_json, guid_json, path_member, wide_member, text_or_hex};
-ghost use Rattle.event_lines.specs.ContentJson.{blob_json, command_json, command_word, content_json, content_members, description_members, image_json, tagged_json, gpt_json, partition_json};
+ghost use Rattle.event_lines.specs.ContentJson.{blob_json, command_json, command_word, content_json, content_members, description_members, handoff_json, image_json, name_members, table_json, tagged_json, gpt_json, partition_json};
 ghost use Rattle.event_lines.specs.SteeringTexts.{unsteered, value_cell};
 
 use crate::steering::append_embedded;
-use crate::values::write_variable;
+use crate::values::{write_rest, write_variable};
 use cells::{CellWriter, Written, write_flag, write_hex, write_number, write_shown, write_text};
 use event_data::{
-    Blob, Command, CommandKind, EventContent, Gpt, Image, Partition, Tagged, event_content,
-    read_text,
+    Blob, Command, CommandKind, EventContent, Gpt, Handoff, Image, Partition, Table, Tagged,
+    event_content, read_text, table_name,
 };
 use event_texts::{guid_text, hex_number, path_text, wide_text};
 use json::Writer;
@@ -57,8 +57,8 @@ pub(crate) fn write_guid(alloc: Global, name: &str, guid: &[u8], writer: &mut Wr
     write_text(name, &text, writer)
 }
 
-// Writes a member with a number of 64 bits, in hexadecimal. Fails only if memory runs out.
-fn write_address(alloc: Global, name: &str, value: u64, writer: &mut Writer) -> Written
+/// Writes a member with a number of 64 bits, in hexadecimal. Fails only if memory runs out.
+pub(crate) fn write_address(alloc: Global, name: &str, value: u64, writer: &mut Writer) -> Written
     ensures { WritesMembers result writer.old writer.new ((name.now, address_json value) ∷ []) }
 {
     let text = hex_number(alloc, value)?;
@@ -115,7 +115,13 @@ fn append_form(alloc: Global, kind: u32, content: &EventContent<'_>, lines: &mut
     append_embedded(writer, lines)
 }
 
-fn write_form(alloc: Global, kind: u32, content: &EventContent<'_>, writer: &mut Writer) -> Written
+/// Writes what decoded data of an event of this type says. Fails only if memory runs out.
+pub(crate) fn write_form(
+    alloc: Global,
+    kind: u32,
+    content: &EventContent<'_>,
+    writer: &mut Writer,
+) -> Written
     ensures { WritesValue result writer.old writer.new (content_json kind (content_of content.now)) }
 {
     writer.begin_object()?;
@@ -124,8 +130,8 @@ fn write_form(alloc: Global, kind: u32, content: &EventContent<'_>, writer: &mut
     Ok(())
 }
 
-// Writes the member of the data's form.
-fn write_member(
+/// Writes the member of the data's form. Fails only if memory runs out.
+pub(crate) fn write_member(
     alloc: Global,
     kind: u32,
     content: &EventContent<'_>,
@@ -139,12 +145,16 @@ fn write_member(
         EventContent::WideText(text) => write_wide(alloc, "text", "text_hex", text, writer),
         EventContent::Guid(guid) => write_guid(alloc, "guid", guid.bytes, writer),
         EventContent::Command(command) => write_command(alloc, command, writer),
-        EventContent::Variable(variable) => write_variable(alloc, kind, variable, writer),
-        EventContent::Image(image) => write_image(alloc, image, writer),
+        EventContent::Variable(variable, rest) => {
+            write_variable(alloc, kind, variable, rest, writer)
+        }
+        EventContent::Image(image, rest) => write_image(alloc, image, rest, writer),
         EventContent::Gpt(gpt) => write_gpt(alloc, gpt, writer),
         EventContent::Blob(blob) => write_blob(alloc, blob, writer),
         EventContent::Tagged(tagged) => write_tagged(alloc, tagged, writer),
         EventContent::Locality(locality) => write_number("locality", *locality as u64, writer),
+        EventContent::Technology(value) => write_number("technology", *value as u64, writer),
+        EventContent::Handoff(handoff) => write_handoff(alloc, handoff, writer),
         EventContent::Unknown(_) => write_flag("unknown", true, writer),
     }
 }
@@ -168,11 +178,13 @@ pub fn command_word(kind: CommandKind) -> &'static str
         CommandKind::Grub => "grub",
         CommandKind::Kernel => "kernel",
         CommandKind::Module => "module",
+        CommandKind::RedHatGrub => "grub",
+        CommandKind::RedHatKernel => "kernel",
     }
 }
 
-fn write_image(alloc: Global, image: &Image<'_>, writer: &mut Writer) -> Written
-    ensures { WritesMembers result writer.old writer.new ((codes "image", image_json (image_of image.now)) ∷ []) }
+fn write_image(alloc: Global, image: &Image<'_>, rest: &[u8], writer: &mut Writer) -> Written
+    ensures { WritesMembers result writer.old writer.new ((codes "image", image_json (image_of image.now) rest.now) ∷ []) }
 {
     writer.key("image")?;
     writer.begin_object()?;
@@ -180,6 +192,7 @@ fn write_image(alloc: Global, image: &Image<'_>, writer: &mut Writer) -> Written
     write_address(alloc, "size", image.size, writer)?;
     write_address(alloc, "link_address", image.link_address, writer)?;
     write_path(alloc, image.path, writer)?;
+    write_rest(alloc, rest, writer)?;
     writer.end_object()?;
     Ok(())
 }
@@ -264,4 +277,50 @@ fn write_partition(alloc: Global, partition: &Partition<'_>, writer: &mut Writer
     write_wide(alloc, "name", "name_hex", partition.name, writer)?;
     writer.end_object()?;
     Ok(())
+}
+
+// Writes the member of vendor tables that firmware hands over.
+fn write_handoff(alloc: Global, handoff: &Handoff<'_>, writer: &mut Writer) -> Written
+    ensures { WritesMembers result writer.old writer.new ((codes "handoff", handoff_json (handoff_of handoff.now)) ∷ []) }
+{
+    writer.key("handoff")?;
+    writer.begin_object()?;
+    write_description(alloc, handoff.description, writer)?;
+    writer.key("tables")?;
+    writer.begin_array()?;
+    write_tables(alloc, handoff, writer)?;
+    writer.end_array()?;
+    writer.end_object()?;
+    Ok(())
+}
+
+fn write_tables(alloc: Global, handoff: &Handoff<'_>, writer: &mut Writer) -> Written
+    ensures { WritesItems result writer.old writer.new (map table_json (tables_of (handoff_of handoff.now))) }
+{
+    let mut left = handoff.tables();
+    while let Some(table) = left.next_table() {
+        write_table(alloc, &table, writer)?;
+    }
+    Ok(())
+}
+
+fn write_table(alloc: Global, table: &Table<'_>, writer: &mut Writer) -> Written
+    ensures { WritesValue result writer.old writer.new (table_json (table_of table.now)) }
+{
+    writer.begin_object()?;
+    write_guid(alloc, "guid", table.vendor, writer)?;
+    write_table_name(table.vendor, writer)?;
+    write_address(alloc, "address", table.address, writer)?;
+    writer.end_object()?;
+    Ok(())
+}
+
+// Writes the member of a table's name, if one is known.
+fn write_table_name(vendor: &[u8], writer: &mut Writer) -> Written
+    ensures { WritesMembers result writer.old writer.new (name_members (table_name vendor.now)) }
+{
+    match table_name(vendor) {
+        Some(name) => write_text("name", name, writer),
+        None => Ok(()),
+    }
 }

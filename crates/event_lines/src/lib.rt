@@ -5,12 +5,15 @@
 //! is read. Plain lines ([`write_events`]) take no memory that is not given back.
 #![tactic(auto)]
 
+mod brief;
+mod certificates;
 mod contents;
 mod event_lines;
 mod events;
 pub mod laws;
 mod marks;
 mod plain_events;
+mod register_names;
 mod steering;
 mod values;
 
@@ -18,4 +21,5 @@ pub use contents::{command_word, show_content, show_form, write_wide};
 pub use event_lines::{EventsFault, send_events};
 pub use events::{append_event, append_header};
 pub use plain_events::{write_declared, write_event_head, write_events};
+pub use register_names::{register_name, show_register};
 pub use steering::append_embedded;

@@ -5,10 +5,12 @@ ghost use Rattle.event_data.specs.Names.{list_of, lists_in, lists_left, load_opt
 ghost use Rattle.cells.specs.Values.{array_of};
 ghost use Rattle.event_lines.specs.ValueJson.{list_json, load_option_json, option_number_json, owner_values, owners_after, signature_json, value_members};
 ghost use Rattle.event_lines.specs.VariableJson.{variable_json};
+ghost use Rattle.event_lines.specs.ContentTexts.{rest_members};
 ghost use Rattle.cells.specs.Writing.{WritesItems, WritesMembers, WritesValue};
 
+use crate::certificates::{write_certificate, write_certificates, write_known};
 use crate::contents::{write_guid, write_path, write_wide};
-use cells::{Written, write_hex, write_number};
+use cells::{Written, write_hex, write_number, write_text};
 use event_data::{
     BootOrder, LoadOption, Signature, SignatureList, SignatureLists, ValueContent, Variable,
     value_content,
@@ -17,27 +19,39 @@ use event_texts::guid_text;
 use json::Writer;
 use std::alloc::Global;
 
-/// Writes the member of a variable that an event of this type has.
+/// Writes the member of the bytes behind a form, if there are any.
+pub(crate) fn write_rest(alloc: Global, rest: &[u8], writer: &mut Writer) -> Written
+    ensures { WritesMembers result writer.old writer.new (rest_members rest.now) }
+{
+    if rest.is_empty() {
+        return Ok(());
+    }
+    write_hex(alloc, "rest", rest, writer)
+}
+
+/// Writes the member of a variable that an event of this type has, and of the bytes behind it.
 pub(crate) fn write_variable(
     alloc: Global,
     kind: u32,
     variable: &Variable<'_>,
+    rest: &[u8],
     writer: &mut Writer,
 ) -> Written
-    ensures { WritesMembers result writer.old writer.new ((codes "variable", variable_json kind (variable_of variable.now)) ∷ []) }
+    ensures { WritesMembers result writer.old writer.new ((codes "variable", variable_json kind (variable_of variable.now) rest.now) ∷ []) }
 {
     writer.key("variable")?;
     writer.begin_object()?;
     write_guid(alloc, "guid", variable.guid, writer)?;
     write_wide(alloc, "name", "name_hex", variable.name, writer)?;
     write_hex(alloc, "value", variable.value, writer)?;
+    write_rest(alloc, rest, writer)?;
     write_says(alloc, &value_content(kind, variable), writer)?;
     writer.end_object()?;
     Ok(())
 }
 
-// Writes the member of what the value says; none where its form is not known.
-fn write_says(alloc: Global, content: &ValueContent<'_>, writer: &mut Writer) -> Written
+/// Writes the member of what the value says; none where its form is not known. Fails only if memory runs out.
+pub(crate) fn write_says(alloc: Global, content: &ValueContent<'_>, writer: &mut Writer) -> Written
     ensures { WritesMembers result writer.old writer.new (value_members (says_of content.now)) }
 {
     match content {
@@ -46,6 +60,8 @@ fn write_says(alloc: Global, content: &ValueContent<'_>, writer: &mut Writer) ->
         ValueContent::LoadOption(option) => write_load_option(alloc, option, writer),
         ValueContent::Lists(lists) => write_lists(alloc, lists, writer),
         ValueContent::Signature(signature) => write_signature(alloc, signature, writer),
+        ValueContent::Certificate(certificate) => write_known(alloc, certificate, writer),
+        ValueContent::Level(level) => write_text("level", level, writer),
         ValueContent::Unknown => Ok(()),
     }
 }
@@ -130,6 +146,7 @@ fn write_list(alloc: Global, list: &SignatureList<'_>, writer: &mut Writer) -> W
     writer.begin_array()?;
     write_owners(alloc, list, writer)?;
     writer.end_array()?;
+    write_certificates(alloc, list, writer)?;
     writer.end_object()?;
     Ok(())
 }
@@ -166,6 +183,7 @@ fn write_signature(alloc: Global, signature: &Signature<'_>, writer: &mut Writer
     writer.begin_object()?;
     write_guid(alloc, "owner", signature.owner, writer)?;
     write_hex(alloc, "data", signature.payload, writer)?;
+    write_certificate(alloc, signature.payload, writer)?;
     writer.end_object()?;
     Ok(())
 }

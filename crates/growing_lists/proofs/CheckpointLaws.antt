@@ -33,7 +33,7 @@ use Rattle.boot_verdict.specs.declared.isolation.Stray.{Stray}
 use Rattle.growing_lists.specs.CheckpointData.{HaveValues, IsBoot, IsHash, IsSameState, IsStrayOf, SameData, SameValues}
 use Rattle.growing_lists.specs.declared.saved_state.Boot.{Boot}
 use Rattle.growing_lists.specs.declared.saved_state.SavedState.{SavedState}
-use Rattle.growing_lists.specs.CheckpointTexts.{IsOfOtherVersion, bank_lines, banks_lines, boot_lines, checkpoint_text, checkpoint_body, data_lines, state_lines, number_line, seal_line, recorded_line, recorded_words, stray_entry, stray_lines, stray_register, value_line}
+use Rattle.growing_lists.specs.CheckpointTexts.{IsOfOtherVersion, bank_lines, banks_lines, boot_lines, checkpoint_text, checkpoint_body, data_lines, state_lines, number_line, seal_line, recorded_line, recorded_words, stray_entry, stray_lines, stray_register, told_line, value_line}
 use Rattle.boot_verdict.specs.Replays as replays
 use Rattle.growing_lists.specs.parts.CheckpointParts.{HasBank, Sets, TakesBank, TakesSome}
 use Rattle.pcr_banks.proofs.AlgLaws as algs
@@ -130,6 +130,26 @@ pub none_recorded : (words : List ℕ) (recorded : Option Digest) → words ≡ 
 none_recorded words None none is = refl
 none_recorded words (Some digest) none is =
     absurd (not_named (alg_of digest) (codes ":" ++ encode_lower (bytes_of digest)) (sym none ∙ is))
+
+-- ---- the boot aggregate of another template
+
+-- Other lines do not begin as its line does: their second letter is another.
+not_told : (rest left : List ℕ) → codes "before\n" ++ rest ≡ codes "boot_aggregate_told " ++ left → ⊥
+not_told rest left is = let byte : ◌≡◌ {A = ℕ} 101 111 = ap (λ (l : List ℕ). slice_index l 1) is in absurd (omega (arith, byte))
+
+-- Without a line that begins so, there is none.
+pub none_told : (told : Option Digest) (rest text : List ℕ) → text ≡ told_line told ++ rest
+    → ((more : List ℕ) → text ≡ codes "boot_aggregate_told " ++ more → ⊥) → (None ≡ told) × (text ≡ rest)
+none_told None rest text is none = (refl, is)
+none_told (Some digest) rest text is none =
+    absurd (has_word (codes "boot_aggregate_told ") (recorded_words (Some digest) ++ codes "\n") rest text is none)
+
+-- With one, it is that line.
+pub line_told : (told : Option Digest) (rest text left : List ℕ) → text ≡ told_line told ++ (codes "before\n" ++ rest)
+    → text ≡ codes "boot_aggregate_told " ++ left
+    → text ≡ (codes "boot_aggregate_told " ++ (recorded_words told ++ codes "\n")) ++ (codes "before\n" ++ rest)
+line_told None rest text left is found = absurd (not_told rest left (sym is ∙ found))
+line_told (Some digest) rest text left is found = is
 
 -- ---- the stray entry
 
@@ -488,6 +508,7 @@ data_same first second same =
       same.entries,
       same.bytes,
       same.recorded,
+      same.told,
       same.stray,
       banks_same first.before second.before same.before,
       banks_same first.after second.after same.after,
@@ -514,8 +535,11 @@ after_after known rest = stray_lines known.stray ++ rest
 abbrev pub after_before : Checkpoint → List ℕ → List ℕ
 after_before known rest = codes "after\n" ++ (banks_lines known.after ++ after_after known rest)
 
+abbrev pub from_before : Checkpoint → List ℕ → List ℕ
+from_before known rest = banks_lines known.before ++ after_before known rest
+
 abbrev pub after_recorded : Checkpoint → List ℕ → List ℕ
-after_recorded known rest = codes "before\n" ++ (banks_lines known.before ++ after_before known rest)
+after_recorded known rest = told_line known.told ++ (codes "before\n" ++ from_before known rest)
 
 abbrev pub after_bytes : Checkpoint → List ℕ → List ℕ
 after_bytes known rest = recorded_line known.recorded ++ after_recorded known rest
@@ -523,32 +547,34 @@ after_bytes known rest = recorded_line known.recorded ++ after_recorded known re
 abbrev pub after_entries : Checkpoint → List ℕ → List ℕ
 after_entries known rest = number_line (codes "bytes ") known.bytes ++ after_bytes known rest
 
-eight : (a b c d e f g h rest : List ℕ)
-    → (a ++ (b ++ (c ++ (d ++ (e ++ (f ++ (g ++ h))))))) ++ rest ≡ a ++ (b ++ (c ++ (d ++ (e ++ (f ++ (g ++ (h ++ rest)))))))
-eight a b c d e f g h rest = simp append_assoc refl
+nine : (a b c t d e f g h rest : List ℕ)
+    → (a ++ (b ++ (c ++ (t ++ (d ++ (e ++ (f ++ (g ++ h)))))))) ++ rest
+    ≡ a ++ (b ++ (c ++ (t ++ (d ++ (e ++ (f ++ (g ++ (h ++ rest))))))))
+nine a b c t d e f g h rest = simp append_assoc refl
 
 pub data_apart : (known : Checkpoint) (rest : List ℕ)
     → data_lines known ++ rest ≡ number_line (codes "entries ") known.entries ++ after_entries known rest
 data_apart known rest =
-    eight (number_line (codes "entries ") known.entries) (number_line (codes "bytes ") known.bytes) (recorded_line known.recorded)
-    (codes "before\n") (banks_lines known.before) (codes "after\n") (banks_lines known.after) (stray_lines known.stray) rest
+    nine (number_line (codes "entries ") known.entries) (number_line (codes "bytes ") known.bytes) (recorded_line known.recorded)
+    (told_line known.told) (codes "before\n") (banks_lines known.before) (codes "after\n") (banks_lines known.after) (stray_lines known.stray) rest
 
-parts_joined : (entries bytes recorded before after register entry : List ℕ)
+parts_joined : (entries bytes recorded told before after register entry : List ℕ)
     → (codes "entries " ++ (entries ++ (codes "\nbytes " ++ (bytes ++ codes "\n"))))
-    ++ (recorded ++ ((codes "before\n" ++ before) ++ ((codes "after\n" ++ after)
-    ++ (codes "register " ++ (register ++ (codes "\nentry " ++ (entry ++ codes "\n")))))))
+    ++ (recorded ++ (told ++ ((codes "before\n" ++ before) ++ ((codes "after\n" ++ after)
+    ++ (codes "register " ++ (register ++ (codes "\nentry " ++ (entry ++ codes "\n"))))))))
     ≡ (codes "entries " ++ (entries ++ codes "\n"))
-    ++ ((codes "bytes " ++ (bytes ++ codes "\n")) ++ (recorded ++ (codes "before\n" ++ (before ++ (codes "after\n" ++ (after
-    ++ ((codes "register " ++ (register ++ codes "\n")) ++ (codes "entry " ++ (entry ++ codes "\n")))))))))
-parts_joined entries bytes recorded before after register entry = simp append_assoc refl
+    ++ ((codes "bytes " ++ (bytes ++ codes "\n")) ++ (recorded ++ (told ++ (codes "before\n" ++ (before ++ (codes "after\n" ++ (after
+    ++ ((codes "register " ++ (register ++ codes "\n")) ++ (codes "entry " ++ (entry ++ codes "\n"))))))))))
+parts_joined entries bytes recorded told before after register entry = simp append_assoc refl
 
 -- The parts of the data, as they are written.
 pub data_parts : (known : Checkpoint)
     → (codes "entries " ++ (decimal known.entries ++ (codes "\nbytes " ++ (decimal known.bytes ++ codes "\n"))))
     ++ (recorded_line known.recorded
+    ++ (told_line known.told
     ++ ((codes "before\n" ++ banks_lines known.before) ++ ((codes "after\n" ++ banks_lines known.after)
     ++ (codes "register "
-    ++ (decimal (stray_register known.stray) ++ (codes "\nentry " ++ (decimal (stray_entry known.stray) ++ codes "\n")))))))
+    ++ (decimal (stray_register known.stray) ++ (codes "\nentry " ++ (decimal (stray_entry known.stray) ++ codes "\n"))))))))
     ≡ data_lines known
 data_parts known =
     let recorded = recorded_line known.recorded in
@@ -556,7 +582,7 @@ data_parts known =
     let after = banks_lines known.after in
     let register = decimal (stray_register known.stray) in
     let entry = decimal (stray_entry known.stray) in
-    parts_joined (decimal known.entries) (decimal known.bytes) recorded before after register entry
+    parts_joined (decimal known.entries) (decimal known.bytes) recorded (told_line known.told) before after register entry
 
 -- The parts of the body, as they are written.
 pub body_parts : (state : SavedState)
@@ -602,6 +628,7 @@ same_both found first second one other = record {
     entries = sym one.checkpoint.entries ∙ other.checkpoint.entries;
     bytes = sym one.checkpoint.bytes ∙ other.checkpoint.bytes;
     recorded = sym one.checkpoint.recorded ∙ other.checkpoint.recorded;
+    told = sym one.checkpoint.told ∙ other.checkpoint.told;
     stray = sym one.checkpoint.stray ∙ other.checkpoint.stray;
     before = λ a r. sym (one.checkpoint.before a r) ∙ other.checkpoint.before a r;
     after = λ a r. sym (one.checkpoint.after a r) ∙ other.checkpoint.after a r;

@@ -11,7 +11,7 @@ use Rattle.pcr_banks.specs.declared.digest.Digest.{Digest}
 use Rattle.pcr_banks.specs.Names.{alg_of, bank_of, bytes_of, extended_by_all, in_bank, is_active, value_at}
 use Rattle.ima_list.specs.Names.{AreEntries, IsEntry, IsImaPayload, ListEntry, digests_of, is_ima, list_spelling, payload_spelling, replayed_value, spelling}
 use Rattle.boot_verdict.specs.declared.checkpoint.Checkpoint.{Checkpoint}
-use Rattle.boot_verdict.specs.Names.{IsCheckpoint, first_stray, recorded_aggregate, stray_from}
+use Rattle.boot_verdict.specs.Names.{IsCheckpoint, first_stray, recorded_aggregate, told_aggregate, stray_from}
 use Rattle.growing_lists.specs.CheckpointData.{HaveValues, IsCounted, IsPossible, IsStrayOf, LeavesRoom, SameData, SameValues}
 use Rattle.growing_lists.specs.Sessions.{IsOfBoot}
 
@@ -50,6 +50,7 @@ module _ (first second : Checkpoint) (one : IsPossible first) (two : IsPossible 
     count = sym same.entries ∙ is.count;
     size = sym same.bytes ∙ is.size;
     recorded = ap (λ (recorded : Option Digest). option_map (λ digest. (alg_of digest, bytes_of digest)) recorded) (sym same.recorded) ∙ is.recorded;
+    told = ap (λ (told : Option Digest). option_map (λ digest. (alg_of digest, bytes_of digest)) told) (sym same.told) ∙ is.told;
     stray = sym same.stray ∙ is.stray;
   }
 
@@ -84,6 +85,7 @@ counted_same first second before after possible same =
           record {
             bytes = same.bytes ∙ nothing.bytes;
             recorded = same.recorded ∙ nothing.recorded;
+            told = same.told ∙ nothing.told;
             same = record { active = active; values = λ a r. same.before a r ∙ nothing.same.values a r ∙ sym (same.after a r) };
           };
     }
@@ -167,6 +169,7 @@ counted_list known list is room =
           record {
             bytes = size ∙ spelled ∙ ap (λ (entries : List ListEntry). length (list_spelling entries)) empty;
             recorded = none_recorded known.recorded (is.recorded ∙ ap recorded_aggregate empty);
+            told = none_recorded known.told (is.told ∙ ap told_aggregate empty);
             same = record {
               active = active;
               values = λ a r.

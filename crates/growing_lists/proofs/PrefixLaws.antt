@@ -17,6 +17,7 @@ use Rattle.pcr_values.specs.declared.expected.Expected.{Expected}
 use Rattle.boot_log.specs.Names.{IsFirmware, LogEvent}
 use Rattle.ima_list.specs.Names.{AreGenuine, BeginsWith, IsEntry, IsGenuine, ListEntry, digests_of, list_spelling, spelling}
 use Rattle.ima_list.proofs.PieceLaws.{reading_to_the_end}
+use Rattle.boot_verdict.specs.declared.aggregate_rule.AggregateRule.{AggregateRule}
 use Rattle.boot_verdict.specs.declared.checkpoint.Checkpoint.{Checkpoint}
 use Rattle.boot_verdict.specs.declared.report.Unconfirmed.{Unconfirmed}
 use Rattle.boot_verdict.specs.declared.report.Unconfirmed.TheVariants as unconfirmed
@@ -25,11 +26,11 @@ use Rattle.growing_lists.specs.declared.confirmation.Prefix.{Prefix}
 use Rattle.boot_verdict.specs.declared.list_replay.ListReplay.{ListReplay}
 use Rattle.boot_verdict.specs.declared.steps.Position.{Position}
 use Rattle.boot_verdict.specs.declared.steps.Position.TheVariants.{Reset, Event, Entry, Nowhere, Absent}
-use Rattle.boot_verdict.specs.Names.{After, AreAfter, AreTracked, CameFrom, IsCheckpoint, IsMoreFault, IsReplayedOrForged, OfEntry, Replays, ReplaysAll, ReplaysMore, Step, StopsAt, WatchesAll, aggregate_of, entries_as_steps, first_stray, is_good, is_match, is_reached, least_prefix, pcr_after_log_and_list, position_after, recorded_aggregate, row_on, stray_from, value_after}
+use Rattle.boot_verdict.specs.Names.{After, AreAfter, AreTracked, CameFrom, IsCheckpoint, IsMoreFault, IsReplayedOrForged, OfEntry, Replays, ReplaysAll, ReplaysMore, Step, StopsAt, WatchesAll, aggregate_under, aggregate_with, entries_as_steps, first_stray, is_good, is_match, is_reached, least_prefix, pcr_after_log_and_list, position_after, recorded_aggregate, row_on, stray_from, told_aggregate, value_after}
 use Rattle.boot_verdict.specs.declared.isolation.Stray.{Stray}
 use Rattle.tpm_quotes.specs.Quoting.{Values}
 use Rattle.growing_lists.specs.declared.confirmation.Goal.{Goal}
-use Rattle.growing_lists.specs.Goals.{GoalData, OfExpected, OfQuote, goal_data, is_confirmed, is_met}
+use Rattle.growing_lists.specs.Goals.{GoalData, OfExpected, OfQuote, SoughtData, goal_data, is_confirmed, is_confirmed_under, is_met, is_sought}
 use Rattle.growing_lists.specs.parts.Confirming.{PrefixIs, IsConfirmingAfter, IsPrefixAt, confirms, prefix_at, is_late, search_after, search_before, size_after, size_more, values_after}
 use Rattle.growing_lists.specs.parts.Searches.{FindsPrefix, IsConfirmedAt, Searches, WatchesSearch, checkpoint_at, fault_in, prefix_after, prefix_with, stray_within, whole_after}
 use Rattle.boot_verdict.proofs.PositionLaws.{row_matches, steps_back, steps_to, two_ways}
@@ -200,13 +201,13 @@ module _ (list : List ℕ) (known : Checkpoint) (goal : Goal) (is : IsCheckpoint
 
 pub known_search : (list : List ℕ) (known : Checkpoint) (goal : Goal) → IsCheckpoint list known → known.bytes < 2 ^ 64
     → ReplaysAll IsConfirmingAfter (search_before known goal) list
-    (record { tracker = search_after known goal; entries = known.entries; recorded = known.recorded; stray = known.stray; forged = None })
+    (record { tracker = search_after known goal; entries = known.entries; recorded = known.recorded; told = known.told; stray = known.stray; forged = None })
 known_search list known goal is few =
     let tracked = known_after list known goal is few in
     record {
       entries = is.entries;
       reading = is.list_is;
-      replays = record { count = is.count; recorded = is.recorded; stray = is.stray; replayed = (is.genuine, tracked) };
+      replays = record { count = is.count; recorded = is.recorded; told = is.told; stray = is.stray; replayed = (is.genuine, tracked) };
       genuine = is.genuine;
       tracked = tracked;
     }
@@ -222,6 +223,21 @@ recorded_take : (n : ℕ) (entries : List ListEntry) → 0 < n → recorded_aggr
 recorded_take zero entries some = absurd (omega (arith, some))
 recorded_take (suc n) [] some = refl
 recorded_take (suc n) (entry ∷ entries) some = refl
+
+told_take : (n : ℕ) (entries : List ListEntry) → 0 < n → told_aggregate (take n entries) ≡ told_aggregate entries
+told_take zero entries some = absurd (omega (arith, some))
+told_take (suc n) [] some = refl
+told_take (suc n) (entry ∷ entries) some = refl
+
+-- The boot aggregate of no entries is good by no rule.
+none_good : (rule : AggregateRule) (algs : AlgSet) (events : List LogEvent) → is_good (aggregate_under rule algs events []) ≡ false
+none_good rule algs events = by rule.wide rule.old_kernel
+  where
+    by : (wide old : Bool) → is_good (aggregate_under (record { wide = wide; old_kernel = old }) algs events []) ≡ false
+    by false false = refl
+    by false true = refl
+    by true false = refl
+    by true true = refl
 
 -- The first stray entry of these, where the first has the number `k`, has no smaller number.
 not_before : (k last : ℕ) (entries : List ListEntry) → last < k → stray_within (stray_from k entries) last ≡ None
@@ -275,16 +291,21 @@ module _ (algs : AlgSet) (events : List LogEvent) (start : Banks) (firmware : Is
   values_reached entries = λ i alg register. value_reached entries alg register i
 
   -- Log and list are confirmed if the boot aggregate is good, and the values are as is sought.
-  confirmed_by : (goal : GoalData) (entries : List ListEntry) → is_confirmed goal algs events entries
-      ≡ (is_good (aggregate_of algs events (recorded_aggregate entries)) && is_met goal (values_after start (entries_as_steps entries)))
-  confirmed_by (OfExpected expected) entries =
-      ap (λ (b : Bool). is_good (aggregate_of algs events (recorded_aggregate entries)) && b)
+  confirmed_under : (rule : AggregateRule) (sought : SoughtData) (entries : List ListEntry)
+      → is_confirmed_under rule sought algs events entries
+      ≡ (is_good (aggregate_under rule algs events entries) && is_sought sought (values_after start (entries_as_steps entries)))
+  confirmed_under rule (OfExpected expected) entries =
+      ap (λ (b : Bool). is_good (aggregate_under rule algs events entries) && b)
       (list_all-map is_match (row_on algs events entries) expected
       ∙ ap (λ (p : Expected → Bool). list_all p expected) (fun_same _ _ (λ e.
       sym (ap (is_reached e) (value_reached entries e.alg e.register)
       ∙ row_matches e (pcr_after_log_and_list algs events entries e.alg e.register)))))
-  confirmed_by (OfQuote quote) entries =
-      ap (λ (v : Values). is_good (aggregate_of algs events (recorded_aggregate entries)) && is_met (OfQuote quote) v) (sym (values_reached entries))
+  confirmed_under rule (OfQuote quote) entries =
+      ap (λ (v : Values). is_good (aggregate_under rule algs events entries) && is_sought (OfQuote quote) v) (sym (values_reached entries))
+
+  confirmed_by : (goal : GoalData) (entries : List ListEntry) → is_confirmed goal algs events entries
+      ≡ (is_good (aggregate_under goal.rule algs events entries) && is_met goal (values_after start (entries_as_steps entries)))
+  confirmed_by goal entries = confirmed_under goal.rule goal.sought entries
 
 -- The genuine entries at the start of those that were searched.
 pub record IsSearched (known : Checkpoint) (goal : Goal) (entries : List ListEntry) (now : Confirming) : Type 0 where
@@ -389,22 +410,26 @@ module _ (known : Checkpoint) (goal : Goal) (bytes : List ℕ) (entries : List L
         count = omega (arith, last, listed, within, all, length-append found.genuine found.others, replays.count, counted);
         size = at.size ∙ sized (take n entries) 0 (omega (arith, prefix_few n)) ∙ omega arith;
         recorded = replays.recorded ∙ sym (recorded_take n entries (omega (arith, last)));
+        told = replays.told ∙ sym (told_take n entries (omega (arith, last)));
         stray = ap (λ (s : Option Stray). stray_within s prefix.last) replays.stray ∙ stray_take n prefix.last entries (omega (arith, last));
       }
 
   module _ (algs : AlgSet) (events : List LogEvent) (firmware : IsFirmware algs events known.before) (good : Bool)
-      (tells : good ≡ is_good (aggregate_of algs events (recorded_aggregate entries))) where
+      (tells : good ≡ is_good (aggregate_under goal.rule algs events entries)) where
     -- Whether a prefix is confirmed.
     confirms_is : (n : ℕ) → known.entries ≤ n → n ≤ length found.genuine
         → is_confirmed (goal_data goal) algs events (take n entries) ≡ (good && test (take n steps_found))
-    confirms_is zero enough le = confirmed_by algs events known.before firmware (goal_data goal) [] ∙ sym (and-false good)
+    confirms_is zero enough le =
+        confirmed_by algs events known.before firmware (goal_data goal) []
+        ∙ ap (λ (b : Bool). b && is_met (goal_data goal) (values_after known.before [])) (none_good goal.rule algs events) ∙ sym (and-false good)
     confirms_is (suc k) enough le =
         let steps = entries_as_steps (take (suc k) entries) in
         let tested : test (take (suc k) steps_found) ≡ is_met (goal_data goal) (values_after known.before steps) =
         ap test (prefix_steps (suc k) le) ∙ rw (late (known.entries - 1) 0 (length steps) (omega (arith, step_count (suc k) le, enough))) refl in
+        let recorded = recorded_take (suc k) entries (omega arith) in
+        let told = told_take (suc k) entries (omega arith) in
         confirmed_by algs events known.before firmware (goal_data goal) (take (suc k) entries)
-        ∙ ap (λ (recorded : Option (Alg × List ℕ)). is_good (aggregate_of algs events recorded) && is_met (goal_data goal) (values_after known.before steps))
-        (recorded_take (suc k) entries (omega arith))
+        ∙ (λ i. is_good (aggregate_with goal.rule algs events (recorded i) (told i)) && is_met (goal_data goal) (values_after known.before steps))
         ∙ ap (λ (b : Bool). b && is_met (goal_data goal) (values_after known.before steps)) (sym tells) ∙ ap (λ (b : Bool). good && b) (sym tested)
 
     prefix_confirmed : (steps : List Step) (prefix : Prefix) → TellsLeast test steps_found (Some steps)
@@ -458,14 +483,15 @@ module _ (known : Checkpoint) (goal : Goal) (bytes : List ℕ) (entries : List L
 
 -- ---- what a search found
 
-abbrev GoodOf : Checkpoint → ListReplay Confirming → Option Checkpoint → Type 0
-GoodOf known replay prefix =
+abbrev GoodOf : Checkpoint → AggregateRule → ListReplay Confirming → Option Checkpoint → Type 0
+GoodOf known rule replay prefix =
     (algs : AlgSet) (events : List LogEvent) → IsFirmware algs events known.before
-    → prefix ≡ prefix_after (is_good (aggregate_of algs events (option_map (λ digest. (alg_of digest, bytes_of digest)) replay.recorded))) known replay
+    → prefix ≡ prefix_after (is_good (aggregate_with rule algs events (option_map (λ digest. (alg_of digest, bytes_of digest)) replay.recorded)
+    (option_map (λ digest. (alg_of digest, bytes_of digest)) replay.told))) known replay
 
 module _ (known : Checkpoint) (goal : Goal) (list : List ℕ) (old new : Option (List ℕ)) (limit : ℕ) (replay : ListReplay Confirming)
     (prefix : Option Checkpoint) (is : IsCheckpoint list known) (room : known.bytes + limit < 2 ^ 64) (counted : replay.entries < 2 ^ 64)
-    (good : GoodOf known replay prefix) where
+    (good : GoodOf known goal.rule replay prefix) where
   pub few_bytes : (came over : List ℕ) → CameFrom old new limit came over → length (list ++ came) < 2 ^ 64
   few_bytes came over from = let within = from.within in omega (arith, room, is.size, within, length-append list came)
 
@@ -475,7 +501,7 @@ module _ (known : Checkpoint) (goal : Goal) (list : List ℕ) (old new : Option 
       → FindsPrefix algs events (goal_data goal) known bytes entries prefix
   finds bytes entries rest begins replays few algs events firmware =
       rw (good algs events firmware) (prefix_is known goal bytes entries rest replay begins replays few counted algs events firmware _
-      (ap (λ (recorded : Option (Alg × List ℕ)). is_good (aggregate_of algs events recorded)) replays.recorded))
+      (λ i. is_good (aggregate_with goal.rule algs events (replays.recorded i) (replays.told i))))
 
   -- All that came is a list of genuine entries.
   abbrev pub searches_whole : ReplaysMore IsConfirmingAfter (search_before known goal) list old new limit replay
@@ -495,6 +521,7 @@ module _ (known : Checkpoint) (goal : Goal) (list : List ℕ) (old new : Option 
         count = all.replays.count;
         size = after.bytes ∙ sized entries 0 (omega (arith, few, listed)) ∙ omega arith ∙ sym listed;
         recorded = all.replays.recorded;
+        told = all.replays.told;
         stray = all.replays.stray;
       } in
       record {

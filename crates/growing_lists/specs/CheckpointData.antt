@@ -48,6 +48,7 @@ pub record IsStrayOf (entries : ℕ) (stray : Stray) : Type 0 where
 pub record HasTakenNothing (checkpoint : Checkpoint) : Type 0 where
   pub bytes : checkpoint.bytes ≡ 0
   pub recorded : checkpoint.recorded ≡ None
+  pub told : checkpoint.told ≡ None
   pub same : AreSameBanks checkpoint.before checkpoint.after
 
 -- The counts, the boot aggregate, the stray entry and the active banks are such as a list leaves, each of whose entries has 32 bytes or more.
@@ -64,12 +65,14 @@ pub record IsPossible (checkpoint : Checkpoint) : Type 0 where
   pub before : HaveValues checkpoint.before
   pub after : HaveValues checkpoint.after
   pub recorded : IfSome checkpoint.recorded (λ digest. IsHash (alg_of digest) (bytes_of digest))
+  pub told : IfSome checkpoint.told (λ digest. IsHash (alg_of digest) (bytes_of digest))
 
 -- Two checkpoints of the same data.
 pub record SameData (first second : Checkpoint) : Type 0 where
   pub entries : first.entries ≡ second.entries
   pub bytes : first.bytes ≡ second.bytes
   pub recorded : first.recorded ≡ second.recorded
+  pub told : first.told ≡ second.told
   pub stray : first.stray ≡ second.stray
   pub before : SameValues first.before second.before
   pub after : SameValues first.after second.after

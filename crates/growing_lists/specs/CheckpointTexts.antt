@@ -1,5 +1,5 @@
 -- A checkpoint, with the boot that a quote told of it, as text.
-use Rattle.std.specs.Prelude.{◌≡◌, ℕ, List, ◌++◌, codes, decimal, flat_map, if◌then◌else◌, Option, Some, None, is_some}
+use Rattle.std.specs.Prelude.{◌≡◌, ℕ, List, [], ◌++◌, codes, decimal, flat_map, if◌then◌else◌, Option, Some, None, is_some}
 use Rattle.hex.specs.Hex.{encode_lower}
 use Rattle.pcr_banks.specs.declared.alg.Alg.{Alg}
 use Rattle.pcr_banks.specs.declared.alg.Alg.TheVariants.{Sha256}
@@ -24,6 +24,11 @@ recorded_words (Some digest) = name_of (alg_of digest) ++ (codes ":" ++ encode_l
 
 abbrev pub recorded_line : Option Digest → List ℕ
 recorded_line recorded = codes "boot_aggregate " ++ (recorded_words recorded ++ codes "\n")
+
+-- The boot aggregate that the first entry records by another of the kernel's templates; without one there is no line.
+abbrev pub told_line : Option Digest → List ℕ
+told_line None = []
+told_line (Some digest) = codes "boot_aggregate_told " ++ (recorded_words (Some digest) ++ codes "\n")
 
 -- The first entry that extends another register than that of the list: the register and the entry's number; without one, the register of
 -- the list and 0.
@@ -57,7 +62,8 @@ data_lines checkpoint =
     number_line (codes "entries ") checkpoint.entries
     ++ (number_line (codes "bytes ") checkpoint.bytes
     ++ (recorded_line checkpoint.recorded
-    ++ (codes "before\n" ++ (banks_lines checkpoint.before ++ (codes "after\n" ++ (banks_lines checkpoint.after ++ stray_lines checkpoint.stray))))))
+    ++ (told_line checkpoint.told
+    ++ (codes "before\n" ++ (banks_lines checkpoint.before ++ (codes "after\n" ++ (banks_lines checkpoint.after ++ stray_lines checkpoint.stray)))))))
 
 -- The counts of the boot, or that no quote confirmed what is known.
 abbrev pub boot_lines : Option Boot → List ℕ

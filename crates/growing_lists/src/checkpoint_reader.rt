@@ -10,7 +10,7 @@ ghost use Rattle.pcr_values.specs.Names.{all_registers, register_line};
 ghost use Rattle.boot_verdict.specs.declared.checkpoint.Checkpoint.{Checkpoint};
 ghost use Rattle.boot_verdict.specs.declared.isolation.Stray.{Stray};
 ghost use Rattle.growing_lists.specs.CheckpointData.{HasTakenNothing, HaveValues, IsBoot, IsCounted, IsHash, IsPossible, IsPossibleState, IsSameState, IsStrayOf, SameData, SameValues};
-ghost use Rattle.growing_lists.specs.CheckpointTexts.{IsOfOtherVersion, IsOfThisVersion, bank_lines, banks_lines, boot_lines, checkpoint_text, data_lines, state_lines, number_line, recorded_line, recorded_words, stray_entry, stray_lines, stray_register, value_line};
+ghost use Rattle.growing_lists.specs.CheckpointTexts.{IsOfOtherVersion, IsOfThisVersion, bank_lines, banks_lines, boot_lines, checkpoint_text, data_lines, state_lines, number_line, recorded_line, recorded_words, stray_entry, stray_lines, stray_register, told_line, value_line};
 ghost use Rattle.growing_lists.specs.declared.saved_state.Boot.{Boot};
 ghost use Rattle.growing_lists.specs.declared.saved_state.SavedState.{SavedState};
 ghost use Rattle.growing_lists.specs.parts.CheckpointParts.{HasBank, Sets, TakesBank};
@@ -104,6 +104,7 @@ fn has_taken_nothing(checkpoint: &Checkpoint) -> bool
 {
     checkpoint.bytes == 0
         && checkpoint.recorded.is_none()
+        && checkpoint.told.is_none()
         && are_same_banks(&checkpoint.before, &checkpoint.after)
 }
 
@@ -163,6 +164,7 @@ fn data_at(text: &[u8]) -> Option<(Checkpoint, &[u8])>
     let (entries, rest) = number_at(b"entries ", text)?;
     let (bytes, rest) = number_at(b"bytes ", rest)?;
     let (recorded, rest) = recorded_at(rest)?;
+    let (told, rest) = told_at(rest)?;
     let (before, rest) = section_at(b"before\n", rest)?;
     let (after, rest) = section_at(b"after\n", rest)?;
     let (stray, rest) = stray_at(rest)?;
@@ -172,6 +174,7 @@ fn data_at(text: &[u8]) -> Option<(Checkpoint, &[u8])>
         entries: entries as usize,
         bytes,
         recorded,
+        told,
         stray,
     };
     Some((checkpoint, rest))
@@ -202,6 +205,19 @@ fn recorded_at(text: &[u8]) -> Option<(Option<Digest>, &[u8])>
         → text.now ≡ recorded_line recorded ++ rest → IsSomeAnd result (λ x. (x.0 ≡ recorded) × (x.1.now ≡ rest)) }
 {
     let (words, rest) = split_once(b'\n', after_prefix(b"boot_aggregate ", text)?)?;
+    Some((recorded_by(words)?, rest))
+}
+
+// The boot aggregate that another template records, by the line at the start, if that is one, and what follows the line.
+fn told_at(text: &[u8]) -> Option<(Option<Digest>, &[u8])>
+    ensures { (told : Option Digest) (rest : List ℕ) → IfSome told (λ digest. IsHash (alg_of digest) (bytes_of digest))
+        → text.now ≡ told_line told ++ (codes "before\n" ++ rest)
+        → IsSomeAnd result (λ x. (x.0 ≡ told) × (x.1.now ≡ codes "before\n" ++ rest)) }
+{
+    let Some(line) = after_prefix(b"boot_aggregate_told ", text) else {
+        return Some((None, text));
+    };
+    let (words, rest) = split_once(b'\n', line)?;
     Some((recorded_by(words)?, rest))
 }
 

@@ -6,15 +6,15 @@ ghost use Rattle.pcr_banks.specs.declared.sets.AlgSet.{AlgSet};
 ghost use Rattle.pcr_banks.specs.Names.{alg_of, bytes_of, value_at};
 ghost use Rattle.boot_log.specs.Names.{IsFirmware, LogEvent};
 ghost use Rattle.boot_verdict.specs.declared.report.Unconfirmed.{Unconfirmed};
-ghost use Rattle.boot_verdict.specs.Names.{AreTracked, IsCheckpoint, IsMoreFault, ReplaysAll, aggregate_of, failures_after_list, is_good, most_after, step_of};
-ghost use Rattle.growing_lists.specs.Goals.{goal_data, are_reached, is_met};
+ghost use Rattle.boot_verdict.specs.Names.{AreTracked, IsCheckpoint, IsMoreFault, ReplaysAll, aggregate_with, failures_after_list, is_good, most_after, step_of};
+ghost use Rattle.growing_lists.specs.Goals.{goal_data, are_reached, is_sought, sought_data};
 ghost use Rattle.growing_lists.specs.parts.Confirming.{IsConfirmingAfter, prefix_at, search_after, search_before, size_of_step};
 ghost use Rattle.growing_lists.specs.parts.Searches.{IsNoListFault, Searches, WatchesSearch, fault_in, prefix_after, stray_within, whole_after, wrong_with};
 
 use crate::session::Session;
 use boot_verdict::{
-    Checkpoint, ListReplay, Position, Step, Stray, Tracker, Unconfirmed, VerifyFault, aggregate_of,
-    is_reached,
+    AggregateRule, Checkpoint, ListReplay, Position, Step, Stray, Tracker, Unconfirmed,
+    VerifyFault, aggregate_with, is_reached,
 };
 use byte_streams::Source;
 use pcr_banks::Banks;
@@ -22,23 +22,32 @@ use pcr_values::Expected;
 use std::alloc::Global;
 use tpm_quotes::Quote;
 
-/// What the registers after a prefix must be, for it to be confirmed.
+/// What is sought of a prefix, for it to be confirmed.
 #[derive(Clone, Copy)]
-pub enum Goal<'a> {
+pub struct Goal<'a> {
+    /// What the registers after it must be.
+    pub sought: Sought<'a>,
+    /// By which rule the boot aggregate must be good.
+    pub rule: AggregateRule,
+}
+
+/// What the registers after a prefix must be.
+#[derive(Clone, Copy)]
+pub enum Sought<'a> {
     /// Each of these has its value.
     Expected(&'a [Expected]),
     /// The quote is of them.
     Quote(&'a Quote<'a>),
 }
 
-impl Goal<'_> {
+impl Sought<'_> {
     // Whether these registers are so.
     fn is_met(&self, banks: &Banks) -> bool
-        ensures { result ≡ is_met (goal_data self.now) (value_at banks.now) }
+        ensures { result ≡ is_sought (sought_data self.now) (value_at banks.now) }
     {
         match self {
-            Goal::Expected(expected) => are_reached(expected, banks),
-            Goal::Quote(quote) => quote.is_of(banks),
+            Sought::Expected(expected) => are_reached(expected, banks),
+            Sought::Quote(quote) => quote.is_of(banks),
         }
     }
 }
@@ -64,7 +73,7 @@ impl Session<'_> {
     ghost use Rattle.growing_lists.specs.Sessions.{HasTaken};
 
     /// Takes what the source has left, as [`Session::more`] does, up to the confirmed prefix: the shortest prefix of the list, no shorter
-    /// than what was taken so far, whose entries are genuine and with which the boot aggregate is good and the registers are as is sought. Of
+    /// than what was taken so far, whose entries are genuine and with which the boot aggregate is good by the goal's rule and the registers are as is sought. Of
     /// expected registers the verdict on it is `match`. The source is read to its end all the same, or to a fault of the list.
     ///
     /// Without such a prefix all is taken, as by [`Session::more`], with its faults; the result is `None`.
@@ -159,7 +168,7 @@ fn search_list<R: Source, W: Tracker>(
         Err(fault) => Err(unconfirmed_of(fault)?),
     };
     Ok(Search {
-        prefix: prefix_in(known, &replay),
+        prefix: prefix_in(known, &replay, goal.rule),
         entries: replay.entries,
         whole,
     })
@@ -175,6 +184,7 @@ fn searching<'a>(known: &Checkpoint, goal: Goal<'a>) -> ListReplay<Confirming<'a
         tracker: Confirming::after(known, goal),
         entries: known.entries,
         recorded: known.recorded,
+        told: known.told,
         stray: known.stray,
         forged: None,
     }
@@ -190,20 +200,26 @@ fn whole_after(known: &Checkpoint, replay: &ListReplay<Confirming<'_>>) -> Check
         entries: replay.entries,
         bytes: replay.tracker.bytes,
         recorded: replay.recorded,
+        told: replay.told,
         stray: replay.stray,
     }
 }
 
-// The checkpoint of the prefix after which the registers are as is sought, if the boot aggregate is good.
-fn prefix_in(known: &Checkpoint, replay: &ListReplay<Confirming<'_>>) -> Option<Checkpoint>
+// The checkpoint of the prefix after which the registers are as is sought, if the boot aggregate is good by the rule.
+fn prefix_in(
+    known: &Checkpoint,
+    replay: &ListReplay<Confirming<'_>>,
+    rule: AggregateRule,
+) -> Option<Checkpoint>
     ensures prefix { (algs : AlgSet) (events : List LogEvent) → IsFirmware algs events known.now.before
-        → result ≡ prefix_after (is_good (aggregate_of algs events (option_map (λ digest. (alg_of digest, bytes_of digest)) replay.now.recorded)))
-        known.now replay.now }
+        → result ≡ prefix_after (is_good (aggregate_with rule algs events
+        (option_map (λ digest. (alg_of digest, bytes_of digest)) replay.now.recorded)
+        (option_map (λ digest. (alg_of digest, bytes_of digest)) replay.now.told))) known.now replay.now }
     ensures counted { replay.now.entries < 2 ^ 64 }
 {
     let _entries = replay.entries;
     let prefix = replay.tracker.prefix?;
-    if !aggregate_of(&known.before, replay.recorded).is_good() {
+    if !aggregate_with(rule, &known.before, replay.recorded, replay.told).is_good() {
         return None;
     }
     Some(Checkpoint {
@@ -212,6 +228,7 @@ fn prefix_in(known: &Checkpoint, replay: &ListReplay<Confirming<'_>>) -> Option<
         entries: prefix.last.saturating_add(1),
         bytes: prefix.bytes,
         recorded: replay.recorded,
+        told: replay.told,
         stray: stray_within(replay.stray, prefix.last),
     })
 }
@@ -312,7 +329,7 @@ impl<'a> Confirming<'a> {
         let Position::Entry(last) = position else {
             return None;
         };
-        if last >= self.first && self.goal.is_met(&self.banks) {
+        if last >= self.first && self.goal.sought.is_met(&self.banks) {
             Some(Prefix {
                 registers: self.banks,
                 last,

@@ -1,14 +1,15 @@
 //! Laws: consequences of the definitions, each the contract of a function that does nothing.
 
-ghost use Rattle.std.specs.Prelude.{ℕ, List};
+ghost use Rattle.std.specs.Prelude.{ℕ, List, IfSome};
+ghost use Rattle.pcr_banks.specs.Names.{alg_of, bytes_of};
 ghost use Rattle.boot_verdict.specs.declared.checkpoint.Checkpoint.{Checkpoint};
 ghost use Rattle.boot_verdict.specs.Names.{IsCheckpoint};
-ghost use Rattle.growing_lists.specs.CheckpointData.{HaveValues, IsCounted, IsPossible, LeavesRoom, SameData};
+ghost use Rattle.growing_lists.specs.CheckpointData.{HaveValues, IsCounted, IsHash, IsPossible, LeavesRoom, SameData};
 ghost use Rattle.growing_lists.specs.Sessions.{IsOfBoot};
 
 use boot_verdict::Checkpoint;
-use pcr_banks::Banks;
 use pcr_banks::laws::{digest_is_a_hash, registers_have_hashes};
+use pcr_banks::{Banks, Digest};
 
 /// A checkpoint whose data fit together is one that [`crate::read_checkpoint`] reads from its text; and so do those of a list, if it
 /// [`crate::leaves_room`].
@@ -18,7 +19,15 @@ pub fn counted_checkpoint_is_possible(checkpoint: &Checkpoint)
 {
     banks_have_values(&checkpoint.before);
     banks_have_values(&checkpoint.after);
-    if let Some(digest) = &checkpoint.recorded {
+    aggregate_is_a_hash(&checkpoint.recorded);
+    aggregate_is_a_hash(&checkpoint.told);
+}
+
+// A boot aggregate, if there is one, is as long as a hash of its algorithm.
+fn aggregate_is_a_hash(recorded: &Option<Digest>)
+    ensures { IfSome recorded.now (λ digest. IsHash (alg_of digest) (bytes_of digest)) }
+{
+    if let Some(digest) = recorded {
         digest_is_a_hash(digest);
     }
 }

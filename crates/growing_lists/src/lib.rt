@@ -11,7 +11,7 @@ mod session;
 mod texts;
 
 pub use checkpoint_reader::read_checkpoint;
-pub use confirmation::{Confirmed, Goal};
+pub use confirmation::{Confirmed, Goal, Sought};
 pub use saved_state::{Boot, SavedState};
 pub use session::{Session, leaves_room};
 pub use texts::write_checkpoint;

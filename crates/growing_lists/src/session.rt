@@ -4,12 +4,14 @@ ghost use Rattle.std.specs.Prelude.{◌≡◌, ◌↔◌, IsTrue, List, [], Some
 ghost use Rattle.byte_streams.specs.Streams.{LosesPrefix};
 ghost use Rattle.boot_log.specs.Names.{IsLog, LogEvent, log_bytes, log_fault};
 ghost use Rattle.boot_log.specs.declared.header.DeclaredAlgorithm.{DeclaredAlgorithm};
-ghost use Rattle.boot_verdict.specs.Names.{AreTracked, IsCheckpoint, IsMoreFault, IsVerdict, ReadsAsLog, failures_after_list, most_after, verdict_of};
+ghost use Rattle.boot_verdict.specs.Names.{AreTracked, IsCheckpoint, IsMoreFault, IsVerdictUnder, ReadsAsLog, failures_after_list, most_after, verdict_of};
 ghost use Rattle.growing_lists.specs.CheckpointData.{LeavesRoom};
 
 use crate::same_banks::are_same_banks;
 use boot_log::{LogFault, LogView};
-use boot_verdict::{Checkpoint, Report, ResumeFault, Tracker, VerifyFault, report_on};
+use boot_verdict::{
+    AggregateRule, Checkpoint, Report, ResumeFault, Tracker, VerifyFault, report_on,
+};
 use byte_streams::Source;
 use pcr_values::Expected;
 use std::alloc::Global;
@@ -102,13 +104,19 @@ impl<'a> Session<'a> {
         Ok(watch)
     }
 
-    /// The report on the log, the list taken so far and the expected registers. Fails only if memory runs out.
-    pub fn report(&self, alloc: Global, expected: &[Expected]) -> Result<Report, VerifyFault>
+    /// The report by this rule on the log, the list taken so far and the expected registers. Fails only if memory runs out.
+    pub fn report(
+        &self,
+        alloc: Global,
+        expected: &[Expected],
+        rule: AggregateRule,
+    ) -> Result<Report, VerifyFault>
         // It is the verdict on the log and the list.
-        ensures report { IfOk result (λ report. (log list : List ℕ) → HasTaken log list self.now → IsVerdict log list expected.now (verdict_of report)) }
+        ensures report { IfOk result (λ report. (log list : List ℕ) → HasTaken log list self.now
+            → IsVerdictUnder rule log list expected.now (verdict_of report)) }
         ensures fault { IfErr result (λ fault. fault ≡ VerifyFault.Memory) }
     {
-        Ok(report_on(alloc, &self.log, &self.checkpoint, expected)?)
+        Ok(report_on(alloc, &self.log, &self.checkpoint, expected, rule)?)
     }
 }
 

@@ -1,6 +1,6 @@
 -- What the first bytes of an input are, and when nothing is said.
-use Rattle.std.proofs.Common.{◌≡◌, ℕ, ◌≤◌, List, [], length, Option, None, Some, Err, refl, sym, ◌∙◌, append-nil, arith, inl}
-use Rattle.std.specs.Prelude.{IfSome, is_some}
+use Rattle.std.proofs.Common.{◌≡◌, ℕ, ◌≤◌, List, [], length, Option, None, Some, Result, Ok, Err, refl, sym, ◌∙◌, append-nil, arith, inl, inr}
+use Rattle.std.specs.Prelude.{IfOk, IfSome, is_some}
 use Rattle.std.specs.Io.KnownBytes.{Consumes}
 use Rattle.byte_streams.specs.declared.piece_reader.ReadFault.{ReadFault}
 use Rattle.byte_streams.specs.declared.piece_reader.ReadFault.TheVariants.{Memory, Source}
@@ -12,9 +12,10 @@ use Rattle.agent_plans.specs.declared.plan.Task.{Task}
 use Rattle.agent_plans.specs.declared.plan.Task.TheVariants as tasks
 use Rattle.judging.specs.Requests.{Requested}
 use Rattle.hints.specs.Heads.{IsHead, head_size}
-use Rattle.hints.specs.Hints.{IsNotSeen}
+use Rattle.hints.specs.declared.reasons.Causes.{Causes}
+use Rattle.hints.specs.Hints.{IsNotSeen, IsSeen}
 use Rattle.judging.specs.Queries.{requested_by}
-use Rattle.hints.specs.Saying.{TellsOf}
+use Rattle.hints.specs.Saying.{TellsOf, TellsSeen}
 
 -- All bytes of a source are its first.
 pub head_of_all : (left : Option (List ℕ)) (all : List ℕ) → IfSome left (λ bytes. all ≡ bytes) → IfSome left (IsHead all)
@@ -45,3 +46,12 @@ head_given (Some all) left head given is = (all, refl, rw given at is)
 pub nothing_seen : (inputs : Inputs) (task : Task) (question : Query) (asked : Requested) (text : List ℕ) → task ≡ tasks.Answer question
     → asked ≡ requested_by question → IsNotSeen inputs asked → text ≡ [] → TellsOf inputs task text
 nothing_seen inputs task question asked text is by unseen none = rw is (inl (rw by at unseen, none))
+
+-- What is said of the causes that are seen is what is said of the task.
+pub causes_told : {A E : Type 0} (inputs later : Inputs) (task : Task) (question : Query) (asked : Requested) (causes : Causes)
+    (text_of : A → List ℕ) (result : Result A E) → task ≡ tasks.Answer question → asked ≡ requested_by question → later ≡ inputs
+    → IsSeen inputs asked causes → IfOk result (λ text. TellsSeen later task question causes (text_of text))
+    → IfOk result (λ text. TellsOf inputs task (text_of text))
+causes_told inputs later task question asked causes text_of (Ok text) by asked_is same seen told =
+    rw by (inr (causes, rw asked_is at seen, rw (by, same) at told))
+causes_told inputs later task question asked causes text_of (Err fault) by asked_is same seen told = tt

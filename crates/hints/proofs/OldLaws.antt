@@ -1,35 +1,26 @@
 -- What the first entry of a list records, by the first bytes of the list; and of which registers that is the old aggregate.
 use Rattle.std.proofs.Common.{◌≡◌, ◌↔◌, ℕ, ◌<◌, ◌≤◌, Bool, true, false, List, [], ◌∷◌, ◌++◌, length, length-append, Option, None, Some, Err, refl, sym, ap, subst, ◌∙◌, append-nil, arith, inl, inr}
-use Rattle.std.specs.Prelude.{IsTrue, is_some, option_map}
+use Rattle.std.specs.Prelude.{IsTrue}
 use Rattle.std.proofs.lemmas.Bool.{cases_lt}
 use Rattle.std.proofs.lemmas.List.Concat.{flat_map-cons}
 use Rattle.pcr_banks.specs.declared.alg.Alg.{Alg}
 use Rattle.pcr_banks.specs.declared.banks.Banks.{Banks}
-use Rattle.pcr_banks.specs.Names.{in_bank, value_at}
+use Rattle.pcr_banks.specs.Names.{value_at}
 use Rattle.boot_log.proofs.LogLaws.{one_reading}
 use Rattle.boot_log.specs.Names.{algs_in}
 use Rattle.ima_list.specs.declared.fault.ListFault.{ListFault}
-use Rattle.ima_list.specs.Names.{AreComplete, BeginsWith, FailsFor, HasListFault, IsLongest, IsReading, ListEntry, joined_values, list_fault_entry, list_spelling, spelling}
+use Rattle.ima_list.specs.Names.{AreComplete, BeginsWith, FailsFor, HasListFault, IsLongest, IsReading, ListEntry, list_fault_entry, list_spelling, spelling}
 use Rattle.ima_list.proofs.ListLaws.{same_entries}
 use Rattle.ima_list.proofs.PieceLaws.{begins_on, fault_number}
-use Rattle.boot_verdict.specs.Names.{pcr_after_log, recorded_in}
+use Rattle.boot_verdict.specs.Names.{is_old, pcr_after_log, recorded_by_any}
 use Rattle.agent_inputs.specs.Loading.{Inputs}
 use Rattle.judging.specs.declared.request.Answer.TheVariants as answers
 use Rattle.judging.specs.declared.request.Answered.{Answered}
 use Rattle.judging.specs.Answering.{AreRegistersAfter, IsAnswer}
-use Rattle.judging.specs.Inputs.{FileOf}
+use Rattle.judging.specs.Inputs.{Where}
 use Rattle.judging.specs.Requests.{LogRegistersOf}
 use Rattle.hints.specs.Heads.{IsHead, IsLookedAt, head_size}
-use Rattle.hints.specs.OldAggregates.{BeginsWithOld, IsSaidOld, LogLeaves, RecordsOld, is_old, old_register_count, registers_in}
-
--- ---- registers
-
--- A bank that is not active has no old aggregate.
-pub not_active : (bank : Option (List (List ℕ))) (hash : List ℕ → List ℕ) → (IsTrue (is_some bank) → IsTrue false)
-    → option_map hash (joined_values (in_bank bank) old_register_count) ≡ None
-unfolding joined_values
-not_active None hash inactive = refl
-not_active (Some registers) hash inactive = let differ : false ≡ true = inactive refl in absurd cc
+use Rattle.hints.specs.OldAggregates.{BeginsWithOld, IsSaidOld, LogLeaves, RecordsOld, registers_in}
 
 -- ---- the first entry
 
@@ -62,14 +53,14 @@ module _ (list : List ℕ) where
 
   module _ (values : Alg → ℕ → Option (List ℕ)) where
     -- The entry that was read is the first.
-    pub decided_first : (entry : ListEntry) (rest : List ℕ) (said : Bool) → BeginsWith list (entry ∷ []) rest → said ≡ is_old values (recorded_in entry)
+    pub decided_first : (entry : ListEntry) (rest : List ℕ) (said : Bool) → BeginsWith list (entry ∷ []) rest → said ≡ is_old values (recorded_by_any entry)
         → IsTrue said ↔ BeginsWithOld values list
     decided_first entry rest true begins is = (λ yes. record { first = entry; rest = rest; begins = begins; records = sym is }, λ old. refl)
     decided_first entry rest false begins is = (
       λ said. absurd (cc),
       λ old.
           let same = only_first entry old.first rest old.rest begins old.begins in
-          is ∙ ap (λ (e : ListEntry). is_old values (recorded_in e)) same ∙ old.records,
+          is ∙ ap (λ (e : ListEntry). is_old values (recorded_by_any e)) same ∙ old.records,
     )
 
     decided_none : HasNoFirst → IsTrue false ↔ BeginsWithOld values list
@@ -128,7 +119,7 @@ module _ (values : Alg → ℕ → Option (List ℕ)) (head list : List ℕ) (is
         | inr long ↦ omega (arith, fits, long)
       ]
 
-  old_in_head : (first : ListEntry) (rest : List ℕ) → Begins first rest → is_old values (recorded_in first) ≡ true
+  old_in_head : (first : ListEntry) (rest : List ℕ) → Begins first rest → is_old values (recorded_by_any first) ≡ true
       → length (spelling first) ≤ head_size → BeginsWithOld values head
   old_in_head first rest begins records fits =
       let left = begun (spelling first) rest head is.rest (parts first rest begins) (fits_in_head first rest begins fits) in
@@ -158,7 +149,7 @@ module _ (log list head : List ℕ) (start registers : Banks) (after : AreRegist
   is_longer none old =
       let first = old.first_is in
       let same = one_reading log after.0 old.table after.1 old.events after.2 old.log_is in
-      let records : is_old (value_at registers) (recorded_in first.first) ≡ true = rw (values_are, same.0, same.1) first.records in
+      let records : is_old (value_at registers) (recorded_by_any first.first) ≡ true = rw (values_are, same.0, same.1) first.records in
       elim (cases_lt head_size (length (spelling first.first))) [
         | inl longer ↦ longer
         | inr fits ↦
@@ -167,7 +158,7 @@ module _ (log list head : List ℕ) (start registers : Banks) (after : AreRegist
       ]
 
 -- What an answer leaves.
-pub left_by : (inputs : Inputs) (log : List ℕ) (given : Answered) (found : Option Banks) → IsAnswer inputs (LogRegistersOf (FileOf log)) given
+pub left_by : (inputs : Inputs) (log : Where) (given : Answered) (found : Option Banks) → IsAnswer inputs (LogRegistersOf log) given
     → found ≡ registers_in given.answer → LogLeaves inputs log found
 left_by inputs log given found (answers.Registers registers, (content, held, after), is) found_is =
     rw (found_is, is) (content, held, (registers.start, after))
@@ -179,7 +170,7 @@ left_by inputs log given found (answers.ListReport report, none, is) found_is = 
 left_by inputs log given found (answers.Expected expected, none, is) found_is = absurd none
 left_by inputs log given found (answers.Key report part, none, is) found_is = absurd none
 
-pub said_of : (inputs : Inputs) (log list : List ℕ) (registers : Banks) (head : List ℕ) (said : Bool) → LogLeaves inputs log (Some registers)
+pub said_of : (inputs : Inputs) (log : Where) (list : List ℕ) (registers : Banks) (head : List ℕ) (said : Bool) → LogLeaves inputs log (Some registers)
     → IsLookedAt inputs list (Some head) → IsTrue said ↔ BeginsWithOld (value_at registers) head → IsSaidOld inputs (Some log) (Some list) said
 said_of inputs log list registers head true (content, held, (start, after)) (bytes, has, is) old =
     (content, held, (bytes, has, records_old content bytes head start registers after is (old.0 refl)))

@@ -15,7 +15,7 @@ use Rattle.hints.specs.declared.reasons.Grown.{Grown}
 use Rattle.hints.specs.declared.reasons.JudgedBy.{JudgedBy}
 use Rattle.hints.specs.declared.reasons.JudgedBy.TheVariants.{Values, ListAlone, Places}
 use Rattle.hints.specs.declared.hints.Hint.{Hint}
-use Rattle.hints.specs.declared.hints.Hint.TheVariants.{Grown as GrownTo, NoEntries, OtherAggregate, OldAggregate, NoAggregateBank, NoAggregate, ListDiffers, NotExpected, NotQuoted, EventOfList, EntryOfLog, EntryAside, LogDiffers, LogNowhere, WithoutLog, Missing, NothingExpected, Absent, Unknown}
+use Rattle.hints.specs.declared.hints.Hint.TheVariants.{Grown as GrownTo, NoEntries, OtherAggregate, OldAggregate, NoAggregateBank, NoAggregate, ListDiffers, NotExpected, NotQuoted, EventOfList, EntryOfLog, EntryAside, LogDiffers, LogNowhere, WithoutLog, ByHcrtm, Missing, NothingExpected, OnlySha1, Absent, Unknown}
 use Rattle.hints.specs.declared.wrong_input.Mistake.{Mistake}
 use Rattle.hints.specs.declared.wrong_input.Mistake.TheVariants as mistakes
 use Rattle.hints.specs.Escaping.{escape}
@@ -33,6 +33,7 @@ aggregate_hint (Some aggregates.Wrong) list is_old = if is_old then Some OldAggr
 aggregate_hint (Some aggregates.NoBank) list is_old = Some NoAggregateBank
 aggregate_hint (Some aggregates.Missing) list is_old = Some NoAggregate
 aggregate_hint (Some aggregates.Good) list is_old = option_map (λ expected. ListDiffers expected.alg) list
+aggregate_hint (Some aggregates.Old) list is_old = option_map (λ expected. ListDiffers expected.alg) list
 aggregate_hint None list is_old = option_map (λ expected. ListDiffers expected.alg) list
 
 abbrev pub wrong_list : Causes → Bool → Option Hint
@@ -99,9 +100,10 @@ abbrev pub last_words : Hint → List ℕ
 last_words (GrownTo confirmed entries) = codes " entries: the list grew after it was read; collect again, or add --prefix to judge those "
 last_words NoEntries = codes "LIST is empty: copy the kernel's list with cat, since its size is given as 0"
 last_words OtherAggregate = codes "the boot aggregate is another: log and list are of different boots, or one of them was changed"
-last_words OldAggregate = codes "the boot aggregate is that of PCRs 0 to 7 alone, as some kernels before 5.8 record it: it does not bind PCRs 8 and 9 to the list"
+last_words OldAggregate = codes "the boot aggregate is that of PCRs 0 to 7 alone, as some kernels before 5.8 record it: it does not bind PCRs 8 and 9 to the list; --old-kernel takes it beside --require"
 last_words NoAggregateBank = codes "LOG has no bank for the boot aggregate, so nothing says that log and list are of one boot"
-last_words NoAggregate = codes "entry 0 is no boot aggregate: the list lacks its beginning, has another template, or was changed"
+last_words NoAggregate =
+    codes "entry 0 is no boot aggregate: the list lacks its beginning, has another template, or was changed; with --require the boot aggregate is also taken from ima-ngv2, ima-sigv2, ima-modsig"
 last_words (ListDiffers Sha1) = codes " PCR 10 differs: it was read at another time than LIST, or an entry is missing or was changed"
 last_words (ListDiffers alg) =
     codes " PCR 10 differs: it was read at another time than LIST, a kernel before 5.8 extended it by SHA-1 digests with zeros after them, or an entry is missing or was changed"
@@ -116,8 +118,11 @@ last_words (LogDiffers alg register) =
 last_words (LogNowhere alg register) =
     codes " never has its value: LOG is of another boot, or was changed; ima-agent events --explain --expected shows its events"
 last_words (WithoutLog alg register) = codes " differs: replay reads no log; ima-agent verify does"
+last_words ByHcrtm = codes "LOG has an H-CRTM event, which tells that PCR 0 began at 4: add --hcrtm, with which less differs"
 last_words (Missing alg register) = codes ": read it with the others"
 last_words NothingExpected = codes "EXPECTED has no PCR, so no PCR was compared: give the values read with LIST"
+last_words (OnlySha1 register) =
+    codes " is required in the SHA-1 bank alone: whoever can make collisions can make another log or list with its value; require another bank, too, if there is one"
 last_words (Unknown entry) =
     codes " is the first that no known file has: ima-agent show names its file; compare that with the file in its package"
 last_words (Absent alg) = codes " is no bank of LOG, so its PCRs cannot be judged: LOG is of another machine, or was changed"
@@ -132,6 +137,7 @@ with_words (GrownTo confirmed entries) words =
 with_words (EventOfList event) words = codes "event " ++ (decimal event ++ words)
 with_words (EntryOfLog entry register) words = codes "entry " ++ (decimal entry ++ (codes " extends PCR " ++ (decimal register ++ words)))
 with_words (EntryAside entry register) words = codes "entry " ++ (decimal entry ++ (codes " extends PCR " ++ (decimal register ++ words)))
+with_words (OnlySha1 register) words = codes "PCR " ++ (decimal register ++ words)
 with_words (Unknown entry) words = codes "entry " ++ (decimal entry ++ words)
 with_words (ListDiffers alg) words = name_of alg ++ words
 with_words (Absent alg) words = name_of alg ++ words
@@ -155,7 +161,8 @@ mistake_words mistakes.Empty = codes "it is empty: copy the kernel's files with 
 mistake_words mistakes.NothingPrinted = codes "it is empty: the tool printed nothing"
 mistake_words mistakes.ListForLog = codes "it is a measurement list, and no firmware event log"
 mistake_words mistakes.OldLog =
-    codes "it is in the SHA-1 form of TPM 1.2, which is not read: kernels before 5.3 and some cloud machines give no other; PCRs 0 to 9 cannot be judged"
+    codes "it is in the SHA-1 form of TPM 1.2: ima-agent log makes LOG of it, of the SHA-1 bank alone, which stops nobody who can make collisions"
 mistake_words mistakes.LogForList = codes "it is a firmware event log, and no measurement list"
-mistake_words mistakes.TextForList = codes "it is the list as text: take binary_runtime_measurements, which is beside it"
+mistake_words mistakes.TextForList = codes "it is the list as text: take binary_runtime_measurements, which is beside it; or ima-agent list makes LIST of it"
+mistake_words mistakes.ListForText = codes "it is the binary list, which the other commands take as it is"
 mistake_words mistakes.PrintedForExpected = codes "it is what tpm2-tools print: ima-agent expected makes EXPECTED of it"

@@ -1,7 +1,9 @@
 pub mod Escaping
+pub mod Hcrtm
 pub mod Heads
 pub mod Hints
 pub mod HintTexts
+pub mod Matches
 pub mod Mistakes
 pub mod OldAggregates
 pub mod Refused

@@ -2,7 +2,7 @@
 use Rattle.std.specs.Prelude.{ℕ, ◌&&◌, ◌||◌, not, nat_le, nat_eq, Bool, if◌then◌else◌, List, [], ◌∷◌, ◌++◌, length, codes, drop, Option, None, Some}
 use Rattle.std.specs.List.{list_any, starts_with}
 use Rattle.hints.specs.declared.wrong_input.Mistake.{Mistake}
-use Rattle.hints.specs.declared.wrong_input.Mistake.TheVariants.{Empty, NothingPrinted, ListForLog, OldLog, LogForList, TextForList, PrintedForExpected}
+use Rattle.hints.specs.declared.wrong_input.Mistake.TheVariants.{Empty, NothingPrinted, ListForLog, OldLog, LogForList, TextForList, ListForText, PrintedForExpected}
 use Rattle.hints.specs.declared.wrong_input.ExpectedInput.{ExpectedInput}
 use Rattle.hints.specs.declared.wrong_input.ExpectedInput.TheVariants as wanted
 
@@ -44,12 +44,16 @@ is_printed head = list_any (starts_with nat_eq head) printed_beginnings
 abbrev pub mistake_of : ExpectedInput → List ℕ → Option Mistake
 mistake_of wanted.Log head = if is_list head then Some ListForLog else if is_old_log head then Some OldLog else None
 mistake_of wanted.List head = if is_log head then Some LogForList else if is_text_list head then Some TextForList else None
+mistake_of wanted.Text head = if is_list head then Some ListForText else if is_log head then Some LogForList else None
+mistake_of wanted.Form head = if is_list head then Some ListForLog else None
 mistake_of wanted.Expected head = if is_printed head then Some PrintedForExpected else None
 mistake_of wanted.Printed head = None
 
 abbrev pub empty_for : ExpectedInput → Mistake
 empty_for wanted.Log = Empty
 empty_for wanted.List = Empty
+empty_for wanted.Text = Empty
+empty_for wanted.Form = Empty
 empty_for wanted.Expected = NothingPrinted
 empty_for wanted.Printed = NothingPrinted
 

@@ -8,18 +8,20 @@ use Rattle.agent_plans.specs.declared.plan.Task.{Task}
 use Rattle.agent_plans.specs.declared.plan.Task.TheVariants as tasks
 use Rattle.judging.specs.Requests.{Requested}
 use Rattle.hints.specs.declared.reasons.Causes.{Causes}
-use Rattle.hints.specs.declared.hints.Hint.TheVariants.{NothingExpected}
+use Rattle.hints.specs.declared.hints.Hint.TheVariants.{ByHcrtm, NothingExpected}
 use Rattle.hints.specs.declared.reasons.Grown.{Grown}
 use Rattle.hints.specs.declared.wrong_input.Mistake.{Mistake}
 use Rattle.hints.specs.declared.wrong_input.ExpectedInput.{ExpectedInput}
 use Rattle.hints.specs.Escaping.{escape}
+use Rattle.hints.specs.Hcrtm.{IsByHcrtm, IsNotByHcrtm}
 use Rattle.hints.specs.Heads.{IsLookedAt}
 use Rattle.hints.specs.Hints.{IsGrown, IsNotGrown, IsNotSeen, IsSeen}
 use Rattle.hints.specs.HintTexts.{hints_of_causes, mistake_words, shown_hint}
+use Rattle.hints.specs.Matches.{TellsMatch}
 use Rattle.hints.specs.Mistakes.{mistake_in}
 use Rattle.hints.specs.OldAggregates.{IsSaidOld}
 use Rattle.judging.specs.Queries.{requested_by, with_known}
-use Rattle.hints.specs.Refused.{list_of, log_of, quoting_of, refused_input}
+use Rattle.hints.specs.Refused.{list_of, quoting_of, refused_input, replayed_log}
 use Rattle.hints.specs.Signing.{key_line, refusal_words, unsigned_words}
 use Rattle.run_progress.specs.declared.progress.Failure.{Failure}
 use Rattle.run_progress.specs.declared.progress.Failure.TheVariants as failures
@@ -28,16 +30,27 @@ use Rattle.run_progress.specs.declared.progress.Failure.TheVariants as failures
 abbrev pub without_known : Query → Requested
 without_known question = with_known [] (requested_by question)
 
--- Three lines at most, on the causes for which what is asked for differs when the inputs are judged once more, and on a prefix of the list, if all
--- is well with one but for files that are not known; and whether the question's list records an older kernel's aggregate. Nothing is said only
--- where it differs no longer, or cannot be judged again.
+-- Three lines at most on these causes, and on a prefix of the list, if all is well with one but for files that are not known; and whether the list
+-- records an older kernel's aggregate.
+abbrev pub TellsHints : Inputs → Task → Query → Causes → List ℕ → Type 0
+TellsHints inputs task question causes text =
+    (grown : Option Grown) × (is_old : Bool)
+    × IfSome grown (IsGrown inputs (without_known question)) × IfNone grown (IsNotGrown inputs (without_known question))
+    × IsSaidOld inputs (replayed_log task) (list_of task) is_old
+    × (text ≡ flat_map shown_hint (take 3 (hints_of_causes causes grown is_old)))
+
+-- Only that the H-CRTM's event tells where the machine started, if less differs then.
+abbrev pub TellsSeen : Inputs → Task → Query → Causes → List ℕ → Type 0
+TellsSeen inputs task question causes text =
+    ((left : Causes) × IsByHcrtm inputs (without_known question) causes left × (text ≡ shown_hint ByHcrtm))
+    ⊎ (IsNotByHcrtm inputs (without_known question) causes × TellsHints inputs task question causes text)
+
+-- What there is to say of the causes for which what is asked for differs when the inputs are judged once more. Nothing is said only where it
+-- differs no longer, or cannot be judged again.
 abbrev pub TellsCauses : Inputs → Query → List ℕ → Type 0
 TellsCauses inputs question text =
     (IsNotSeen inputs (requested_by question) × (text ≡ []))
-    ⊎ ((causes : Causes) × (grown : Option Grown) × (is_old : Bool) × IsSeen inputs (requested_by question) causes
-    × IfSome grown (IsGrown inputs (without_known question)) × IfNone grown (IsNotGrown inputs (without_known question))
-    × IsSaidOld inputs (log_of (tasks.Answer question)) (list_of (tasks.Answer question)) is_old
-    × (text ≡ flat_map shown_hint (take 3 (hints_of_causes causes grown is_old))))
+    ⊎ ((causes : Causes) × IsSeen inputs (requested_by question) causes × TellsSeen inputs (tasks.Answer question) question causes text)
 
 -- The line that names an input, and says what it is; nothing if that cannot be told.
 abbrev pub mistake_line : List ℕ → Option Mistake → List ℕ
@@ -69,5 +82,6 @@ abbrev pub TellsNext : Inputs → Failure → List ℕ → Type 0
 TellsNext inputs (failures.Differs task) text = TellsOf inputs task.now text
 TellsNext inputs (failures.Unsigned task) text = text ≡ escape unsigned_words ++ 10 ∷ []
 TellsNext inputs (failures.Fault fault task) text = TellsFault inputs fault.now task.now text
+TellsNext inputs (failures.Matches task) text = TellsMatch task.now text
 TellsNext inputs failures.NothingCompared text = text ≡ shown_hint NothingExpected
 TellsNext inputs failure text = text ≡ []

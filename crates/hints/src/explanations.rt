@@ -5,11 +5,13 @@ ghost use Rattle.std.specs.List.{list_all};
 ghost use Rattle.hints.specs.Escaping.{is_shown};
 
 use crate::escapes::{escape_each, shown_line, shown_lines};
-use crate::task_inputs::{STANDARD_INPUT, input_of, known_name, quoting_of, signing_of};
+use crate::task_inputs::{
+    STANDARD_INPUT, input_of, is_standard_input, known_name, quoting_of, signing_of,
+};
 use agent_inputs::RunFault;
 use agent_plans::{ComparisonOptions, Query, Quoting, Task};
 use attestations::{Policy, PolicyFault};
-use boot_verdict::Requirement;
+use boot_verdict::{AggregateRule, Requirement};
 use command_line::refusal_of;
 use pcr_values::{Selection, SelectionFault};
 use run_progress::Failure;
@@ -46,7 +48,9 @@ pub fn explanation<R: FileSystem + io::Input>(
             io::ErrorKind::InvalidData => shown_line(alloc, "an argument is not UTF-8"),
             _ => Err(AllocError),
         },
-        Failure::Differs { .. } | Failure::Unsigned { .. } => Ok(String::new(alloc)),
+        Failure::Differs { .. } | Failure::Unsigned { .. } | Failure::Matches { .. } => {
+            Ok(String::new(alloc))
+        }
         Failure::NothingCompared => Ok(String::new(alloc)),
         Failure::Output => shown_line(alloc, "the output could not be written"),
     }
@@ -64,7 +68,7 @@ fn of_fault<R: FileSystem + io::Input>(
     match fault {
         RunFault::Memory => Err(AllocError),
         RunFault::Usage => of_value_in(alloc, task),
-        RunFault::Read(_) if matches!(task, Task::Registers) => {
+        RunFault::Read(_) if is_standard_input(task, fault) => {
             of_reason(alloc, STANDARD_INPUT, read_reason(&mut rt.reader()))
         }
         RunFault::Read(name) if is_refused(rt, name, task) => {
@@ -74,7 +78,7 @@ fn of_fault<R: FileSystem + io::Input>(
             )
         }
         RunFault::Read(name) => of_reason(alloc, name, open_reason(rt, name)),
-        RunFault::TooLong(_) if matches!(task, Task::Registers) => {
+        RunFault::TooLong(_) if is_standard_input(task, fault) => {
             // The fault has no name to tell standard input by.
             let fault = RunFault::TooLong(String::from_str(alloc, STANDARD_INPUT)?);
             shown_line(alloc, &format!(in alloc; "{fault}")?)
@@ -202,6 +206,7 @@ fn of_policy(alloc: Global, quoting: &Quoting) -> Result<String, AllocError> {
         nonce: &quoting.nonce,
         required: &required,
         takes_sha1: quoting.takes_sha1,
+        rule: AggregateRule::PLAIN,
     };
     match policy.fault() {
         None => Err(AllocError),

@@ -3,7 +3,7 @@
 ghost use Rattle.std.specs.Prelude.{◌≡◌, ◌++◌, ◌∷◌, [], codes, decimal, flat_map, take, true, string_bytes, IfOk, OnOk};
 ghost use Rattle.std.specs.List.{list_all};
 ghost use Rattle.pcr_banks.specs.Names.{name_of};
-ghost use Rattle.hints.specs.declared.hints.Hint.TheVariants.{NothingExpected};
+ghost use Rattle.hints.specs.declared.hints.Hint.TheVariants.{ByHcrtm, NothingExpected, OnlySha1};
 ghost use Rattle.hints.specs.Escaping.{escape, is_shown};
 ghost use Rattle.hints.specs.HintTexts.{absent_hint, entry_hint, event_hint, hint_line, hints_of_causes, is_grown, last_words, list_hint, log_hint, missing_hint, mistake_words, of_option, shown_hint, unknown_hint, values_hint};
 
@@ -53,10 +53,14 @@ pub(crate) enum Hint {
     LogNowhere { alg: Alg, register: u32 },
     /// It is judged without its log.
     WithoutLog { alg: Alg, register: u32 },
+    /// Less differs where the H-CRTM's event tells where the machine started.
+    ByHcrtm,
     /// A register is required, and not expected.
     Missing { alg: Alg, register: u32 },
     /// None is expected.
     NothingExpected,
+    /// A register is required in the SHA-1 bank alone.
+    OnlySha1 { register: u32 },
     /// The log has no such bank.
     Absent { alg: Alg },
     /// This is the first entry that is not known.
@@ -84,6 +88,23 @@ pub(crate) fn nothing_compared_hint(alloc: Global) -> Result<String, AllocError>
     ensures shown { IfOk result (λ text. list_all is_shown (string_bytes text) ≡ true) }
 {
     shown_line(alloc, NOTHING_EXPECTED)
+}
+
+/// What to do where less differs if the H-CRTM's event tells where the machine started.
+pub(crate) fn hcrtm_hint(alloc: Global) -> Result<String, AllocError>
+    ensures line { IfOk result (λ text. string_bytes text ≡ shown_hint ByHcrtm) }
+    ensures shown { IfOk result (λ text. list_all is_shown (string_bytes text) ≡ true) }
+{
+    shown_line(alloc, BY_HCRTM)
+}
+
+/// What a match is worth with which this register is required in the SHA-1 bank alone.
+pub(crate) fn weak_hint(alloc: Global, register: u32) -> Result<String, AllocError>
+    ensures line { IfOk result (λ text. string_bytes text ≡ shown_hint (OnlySha1 register)) }
+    ensures shown { IfOk result (λ text. list_all is_shown (string_bytes text) ≡ true) }
+{
+    let line = line_of(alloc, Hint::OnlySha1 { register })?;
+    shown_line(alloc, &line)
 }
 
 // The lines of these.
@@ -158,10 +179,10 @@ fn list_hint(causes: &Causes, grown: Option<Grown>, is_old: bool) -> Option<Hint
         (Some(Aggregate::Wrong), _) => Some(Hint::OtherAggregate),
         (Some(Aggregate::NoBank), _) => Some(Hint::NoAggregateBank),
         (Some(Aggregate::Missing), _) => Some(Hint::NoAggregate),
-        (Some(Aggregate::Good) | None, Some(expected)) => {
+        (Some(Aggregate::Good | Aggregate::Old) | None, Some(expected)) => {
             Some(Hint::ListDiffers { alg: expected.alg })
         }
-        (Some(Aggregate::Good) | None, None) => None,
+        (Some(Aggregate::Good | Aggregate::Old) | None, None) => None,
     }
 }
 
@@ -243,6 +264,7 @@ fn line_of(alloc: Global, hint: Hint) -> Result<String, AllocError>
         Hint::Grown { confirmed, entries } => grown_line(alloc, confirmed, entries, words),
         Hint::EventOfList { event } => number_line(alloc, "event ", event, words),
         Hint::Unknown { entry } => number_line(alloc, "entry ", entry, words),
+        Hint::OnlySha1 { register } => number_line(alloc, "PCR ", register as usize, words),
         Hint::EntryOfLog { entry, register } | Hint::EntryAside { entry, register } => {
             entry_line(alloc, entry, register, words)
         }
@@ -260,6 +282,7 @@ fn line_of(alloc: Global, hint: Hint) -> Result<String, AllocError>
         | Hint::NoAggregate
         | Hint::NotExpected
         | Hint::NotQuoted
+        | Hint::ByHcrtm
         | Hint::NothingExpected => String::from_str(alloc, words),
     }
 }
@@ -285,8 +308,10 @@ fn last_words(hint: Hint) -> &'static str
         Hint::LogDiffers { .. } => LOG_DIFFERS,
         Hint::LogNowhere { .. } => LOG_NOWHERE,
         Hint::WithoutLog { .. } => WITHOUT_LOG,
+        Hint::ByHcrtm => BY_HCRTM,
         Hint::Missing { .. } => ": read it with the others",
         Hint::NothingExpected => NOTHING_EXPECTED,
+        Hint::OnlySha1 { .. } => ONLY_SHA1,
         Hint::Absent { .. } => ABSENT,
         Hint::Unknown { .. } => UNKNOWN,
     }
@@ -302,13 +327,13 @@ const OTHER_AGGREGATE: &str =
     "the boot aggregate is another: log and list are of different boots, or one of them was changed";
 
 const OLD_AGGREGATE: &str =
-    "the boot aggregate is that of PCRs 0 to 7 alone, as some kernels before 5.8 record it: it does not bind PCRs 8 and 9 to the list";
+    "the boot aggregate is that of PCRs 0 to 7 alone, as some kernels before 5.8 record it: it does not bind PCRs 8 and 9 to the list; --old-kernel takes it beside --require";
 
 const NO_AGGREGATE_BANK: &str =
     "LOG has no bank for the boot aggregate, so nothing says that log and list are of one boot";
 
 const NO_AGGREGATE: &str =
-    "entry 0 is no boot aggregate: the list lacks its beginning, has another template, or was changed";
+    "entry 0 is no boot aggregate: the list lacks its beginning, has another template, or was changed; with --require the boot aggregate is also taken from ima-ngv2, ima-sigv2, ima-modsig";
 
 const LIST_DIFFERS: &str =
     " PCR 10 differs: it was read at another time than LIST, or an entry is missing or was changed";
@@ -342,6 +367,12 @@ const LOG_NOWHERE: &str =
     " never has its value: LOG is of another boot, or was changed; ima-agent events --explain --expected shows its events";
 
 const WITHOUT_LOG: &str = " differs: replay reads no log; ima-agent verify does";
+
+const BY_HCRTM: &str =
+    "LOG has an H-CRTM event, which tells that PCR 0 began at 4: add --hcrtm, with which less differs";
+
+const ONLY_SHA1: &str =
+    " is required in the SHA-1 bank alone: whoever can make collisions can make another log or list with its value; require another bank, too, if there is one";
 
 const ABSENT: &str =
     " is no bank of LOG, so its PCRs cannot be judged: LOG is of another machine, or was changed";
@@ -471,10 +502,11 @@ fn mistake_words(mistake: Mistake) -> &'static str
         Mistake::NothingPrinted => "it is empty: the tool printed nothing",
         Mistake::ListForLog => "it is a measurement list, and no firmware event log",
         Mistake::OldLog =>
-            "it is in the SHA-1 form of TPM 1.2, which is not read: kernels before 5.3 and some cloud machines give no other; PCRs 0 to 9 cannot be judged",
+            "it is in the SHA-1 form of TPM 1.2: ima-agent log makes LOG of it, of the SHA-1 bank alone, which stops nobody who can make collisions",
         Mistake::LogForList => "it is a firmware event log, and no measurement list",
         Mistake::TextForList =>
-            "it is the list as text: take binary_runtime_measurements, which is beside it",
+            "it is the list as text: take binary_runtime_measurements, which is beside it; or ima-agent list makes LIST of it",
+        Mistake::ListForText => "it is the binary list, which the other commands take as it is",
         Mistake::PrintedForExpected =>
             "it is what tpm2-tools print: ima-agent expected makes EXPECTED of it",
     }

@@ -3,7 +3,9 @@
 
 mod escapes;
 mod explanations;
+mod hcrtm;
 mod hints;
+mod matches;
 mod old_aggregates;
 mod progress;
 mod reasons;

@@ -30,9 +30,9 @@ const INTERVAL: u64 = 100;
 
 /// Shows the progress on standard error, if that is a terminal: `123 of 10000 files`, after more than a second and at most ten
 /// times a second, written over what was shown before. The line is erased when the measurement ends. Of a run that failed it shows
-/// the [`explanation`] there, and of it or an answer that something differs the [`hint`](hint_on_failure); these also where there is no terminal, if the
-/// arguments ask for it. Before standard input is read, if that is a terminal, it says so. If the clock or the terminal fails,
-/// nothing is shown; this is no fault.
+/// the [`explanation`] there, and of it or an answer the [`hint`](hint_on_failure), if there is one; these also where there is no terminal, if the
+/// arguments ask for it. Before standard input is read, if that is a terminal, it says so. How much padding was cut it always says. If the clock or
+/// standard error fails, nothing is shown; this is no fault.
 #[derive(Drop)]
 pub struct SystemProgress<'a, R> {
     runtime: &'a R,
@@ -98,6 +98,12 @@ impl<R: Eprint + Clock + FileSystem + io::Input + Sync> Progress for SystemProgr
     fn waits(&self) {
         if self.terminals.input && self.terminals.error {
             let _ = eprint!(self.runtime; "{WAITING}");
+        }
+    }
+
+    fn cuts(&self, bytes: usize) {
+        if bytes != 0 {
+            let _ = eprint!(self.runtime; "padding cut: {bytes} bytes behind the last event\n");
         }
     }
 

@@ -6,9 +6,11 @@ ghost use Rattle.agent_inputs.specs.Loading.{unknown};
 ghost use Rattle.judging.specs.Requests.{requested_of};
 ghost use Rattle.hints.specs.Escaping.{is_shown};
 ghost use Rattle.hints.specs.Hints.{IsGrown, IsNotGrown, IsNotSeen, IsSeen};
-ghost use Rattle.hints.specs.Saying.{TellsFault, TellsMistake, TellsNext, TellsOf};
+ghost use Rattle.hints.specs.Saying.{TellsFault, TellsMistake, TellsNext, TellsOf, TellsSeen};
 
-use crate::hints::{nothing_compared_hint, rendered_hints, rendered_mistake};
+use crate::hcrtm::left_by_hcrtm;
+use crate::hints::{hcrtm_hint, nothing_compared_hint, rendered_hints, rendered_mistake};
+use crate::matches::match_hint;
 use crate::old_aggregates::is_old_aggregate;
 use crate::reasons::{Causes, Grown, causes_of, grown_by};
 use crate::reread::{FilesAgain, head_of};
@@ -16,7 +18,7 @@ use crate::signing::{key_hint, refusal_hint, unsigned_hint};
 use crate::task_inputs::{quoting_of, refused_input};
 use crate::wrong_input::mistake_in;
 use agent_inputs::{AgentFiles, RunFault};
-use agent_plans::Task;
+use agent_plans::{Query, Task};
 use judging::{Request, answer_request, known_inputs, on_prefix, request_of};
 use run_progress::Failure;
 use std::alloc::{AllocError, Global};
@@ -35,8 +37,8 @@ pub fn hint_on_failure<R: FileSystem>(
 }
 
 /// What a person may do next, in lines: after an answer that something differs, by a second look at the inputs; where nobody looked at a quote's
-/// signature, or it or its key is refused; after a match with which nothing was compared; and where another input is refused that is not what it
-/// should be, by its first bytes. No text where nothing helps, or the inputs cannot be read again. It changes no input.
+/// signature, or it or its key is refused; after a match with which nothing was compared, or a register was required in the SHA-1 bank alone; and where
+/// another input is refused that is not what it should be, by its first bytes. No text where nothing helps, or the inputs cannot be read again. It changes no input.
 ///
 /// Fails if memory runs out.
 pub fn hint_from_files<F: AgentFiles>(
@@ -51,6 +53,7 @@ pub fn hint_from_files<F: AgentFiles>(
     match failure {
         Failure::Differs { task } => on_difference(alloc, files, task),
         Failure::Unsigned { .. } => unsigned_hint(alloc),
+        Failure::Matches { task } => match_hint(alloc, task),
         Failure::NothingCompared => nothing_compared_hint(alloc),
         Failure::Fault { fault, task } => on_fault(alloc, files, fault, task),
         _ => Ok(String::new(alloc)),
@@ -73,10 +76,28 @@ fn on_difference<F: AgentFiles>(
     let known = known_inputs(alloc, question)?;
     match causes_seen(alloc, files, request_of(question, &known)) {
         None => Ok(String::new(alloc)),
-        Some(causes) => {
+        Some(causes) => on_causes(alloc, files, task, question, &causes),
+    }
+}
+
+// Where what a question of a task asks for differs for these causes.
+fn on_causes<F: AgentFiles>(
+    alloc: Global,
+    files: &mut F,
+    task: &Task,
+    question: &Query,
+    causes: &Causes,
+) -> Result<String, AllocError>
+    ensures told { IfOk result (λ text. TellsSeen (F.inputs files.old) task.now question.now causes.now (string_bytes text)) }
+    ensures shown { IfOk result (λ text. list_all is_shown (string_bytes text) ≡ true) }
+    ensures replaced { F.replaced files.new ≡ F.replaced files.old }
+{
+    match left_by_hcrtm(alloc, files, request_of(question, &[]), causes)? {
+        Some(_left) => hcrtm_hint(alloc),
+        None => {
             let grown = grown_seen(alloc, files, request_of(question, &[]));
             let is_old = is_old_aggregate(alloc, files, task)?;
-            rendered_hints(alloc, &causes, grown, is_old)
+            rendered_hints(alloc, causes, grown, is_old)
         }
     }
 }

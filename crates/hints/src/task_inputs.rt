@@ -1,14 +1,16 @@
 //! The names of a task's inputs.
 
 ghost use Rattle.std.specs.Prelude.{◌≡◌, option_map};
-ghost use Rattle.hints.specs.Refused.{as_wanted, expected_of, compared_log, list_of, log_of, quoting_of, refused_input, text_wanted};
+ghost use Rattle.judging.specs.Requests.{location_of};
+ghost use Rattle.hints.specs.Refused.{as_wanted, converted_of, expected_of, compared_log, judged_log, list_of, log_of, quoting_of, refused_input, replayed_log, text_wanted};
 
 use crate::wrong_input::ExpectedInput;
-use agent_inputs::RunFault;
+use agent_inputs::{RunFault, opened_name};
 use agent_plans::{
     AttestOptions, ComparisonKind, ComparisonOptions, ConfirmedBy, Measurement, Query, Quoting,
     SigningOptions, Task,
 };
+use judging::{Input, log_input};
 use measure_book::BookFault;
 use signed_messages::SignatureRefusal;
 
@@ -19,12 +21,36 @@ pub(crate) const STANDARD_INPUT: &str = "standard input";
 pub(crate) fn input_of<'a>(task: &'a Task, fault: &RunFault) -> Option<&'a str> {
     match (fault, task) {
         (RunFault::NotHex, _) | (RunFault::Log(_), Task::Registers) => Some(STANDARD_INPUT),
+        (
+            RunFault::Log(_),
+            Task::Events { log, .. }
+            | Task::Boot {
+                log,
+                before: None,
+                ..
+            },
+        ) => Some(named(&log.name)),
         (RunFault::Log(_) | RunFault::Book(BookFault::NoBank), _) => log_of(task),
+        (RunFault::ListText(_) | RunFault::LogForm(_), Task::Convert { input, .. }) => Some(named(
+            input,
+        )),
         (RunFault::List(_) | RunFault::Replay(_), _) => list_of(task),
+        (RunFault::Expect(_), Task::Answer(Query::Expected { printed: text, .. }))
+        | (
+            RunFault::Expect(_),
+            Task::Events {
+                confirmed_by: ConfirmedBy::Expected(text),
+                ..
+            }
+            | Task::Boot {
+                confirmed_by: ConfirmedBy::Expected(text),
+                ..
+            },
+        ) => Some(named(text)),
         (RunFault::Expect(_), _) => expected_of(task),
         (RunFault::Quote(_), _) => Some(quoting_of(task)?.quote.as_str()),
         (RunFault::Signature(refusal), _) => refused_signing(quoting_of(task)?, *refusal),
-        (RunFault::Key(_), Task::Answer(Query::Key { area, .. })) => Some(area.as_str()),
+        (RunFault::Key(_), Task::Answer(Query::Key { area, .. })) => Some(named(area)),
         (RunFault::Key(_), _) => Some(signing_of(quoting_of(task)?)?.0),
         (RunFault::Checkpoint(_), Task::Answer(Query::Attestation(attest))) => {
             attest.resume.as_deref()
@@ -38,6 +64,47 @@ pub(crate) fn input_of<'a>(task: &'a Task, fault: &RunFault) -> Option<&'a str> 
             Some(name.as_str())
         }
         _ => None,
+    }
+}
+
+/// Whether what could not be read is standard input: an argument that may be standard input is `-`.
+pub(crate) fn is_standard_input(task: &Task, fault: &RunFault) -> bool {
+    let (RunFault::Read(name) | RunFault::TooLong(name)) = fault else {
+        return false;
+    };
+    if opened_name(name).is_some() {
+        return false;
+    }
+    match task {
+        Task::Registers | Task::Convert { .. } => true,
+        Task::Answer(Query::Expected { .. } | Query::Key { .. }) => true,
+        Task::Events {
+            log,
+            confirmed_by,
+            ..
+        }
+        | Task::Boot {
+            log,
+            confirmed_by,
+            ..
+        } => opened_name(&log.name).is_none() || expects_standard_input(confirmed_by),
+        _ => false,
+    }
+}
+
+// Whether the expected registers are standard input.
+fn expects_standard_input(confirmed_by: &ConfirmedBy) -> bool {
+    match confirmed_by {
+        ConfirmedBy::Expected(name) => opened_name(name).is_none(),
+        ConfirmedBy::Nothing | ConfirmedBy::Quote(_) => false,
+    }
+}
+
+// The name of an input that this argument names, where `-` is standard input.
+fn named(argument: &str) -> &str {
+    match opened_name(argument) {
+        Some(name) => name,
+        None => STANDARD_INPUT,
     }
 }
 
@@ -79,6 +146,8 @@ pub(crate) fn refused_input<'a>(
     match fault {
         RunFault::Log(_) => wanted_at(log_of(task), ExpectedInput::Log),
         RunFault::List(_) | RunFault::Replay(_) => wanted_at(list_of(task), ExpectedInput::List),
+        RunFault::ListText(_) => wanted_at(converted_of(task), ExpectedInput::Text),
+        RunFault::LogForm(_) => wanted_at(converted_of(task), ExpectedInput::Form),
         RunFault::Expect(_) => wanted_at(expected_of(task), text_wanted(task)),
         _ => None,
     }
@@ -101,20 +170,20 @@ fn text_wanted(task: &Task) -> ExpectedInput
     }
 }
 
-/// The log of a task in a file, unless there is another.
+/// The log of a task in a file, unless there is another. Standard input is none.
 pub(crate) fn log_of(task: &Task) -> Option<&str>
     ensures { option_map (λ name. name.now) result ≡ log_of task.now }
 {
     match task {
         Task::Measure(Measurement { log, .. })
         | Task::Answer(Query::LogRegisters { log })
-        | Task::Answer(Query::Attestation(AttestOptions { log, .. }))
-        | Task::Events { log, .. }
+        | Task::Answer(Query::Attestation(AttestOptions { log, .. })) => Some(log.name.as_str()),
+        Task::Events { log, .. }
         | Task::Boot {
             log,
             before: None,
             ..
-        } => Some(log.as_str()),
+        } => opened_name(&log.name),
         Task::Answer(Query::Comparison(judge)) => compared_log(&judge.kind),
         _ => None,
     }
@@ -126,9 +195,44 @@ fn compared_log(kind: &ComparisonKind) -> Option<&str>
 {
     match kind {
         ComparisonKind::Verdict { log, .. } | ComparisonKind::Positions { log } => Some(
-            log.as_str(),
+            log.name.as_str(),
         ),
         ComparisonKind::ListVerdict => None,
+    }
+}
+
+/// The log that a task judges with a list, as it is replayed.
+pub(crate) fn replayed_log(task: &Task) -> Option<Input<'_>>
+    ensures { option_map location_of result ≡ replayed_log task.now }
+{
+    match task {
+        Task::Answer(Query::Attestation(AttestOptions { log, .. })) => Some(log_input(
+            &log.name, log.hcrtm,
+        )),
+        Task::Answer(Query::Comparison(judge)) => judged_log(&judge.kind),
+        _ => None,
+    }
+}
+
+// The log of what is judged, as it is replayed.
+fn judged_log(kind: &ComparisonKind) -> Option<Input<'_>>
+    ensures { option_map location_of result ≡ judged_log kind.now }
+{
+    match kind {
+        ComparisonKind::Verdict { log, .. } | ComparisonKind::Positions { log } => Some(log_input(
+            &log.name, log.hcrtm,
+        )),
+        ComparisonKind::ListVerdict => None,
+    }
+}
+
+// The file that a task converts. Standard input is none.
+fn converted_of(task: &Task) -> Option<&str>
+    ensures { option_map (λ name. name.now) result ≡ converted_of task.now }
+{
+    match task {
+        Task::Convert { input, .. } => opened_name(input),
+        _ => None,
     }
 }
 
@@ -149,7 +253,7 @@ fn expected_of(task: &Task) -> Option<&str>
     ensures { option_map (λ name. name.now) result ≡ expected_of task.now }
 {
     match task {
-        Task::Answer(Query::Expected { printed, .. }) => Some(printed.as_str()),
+        Task::Answer(Query::Expected { printed, .. }) => opened_name(printed),
         Task::Answer(Query::Comparison(ComparisonOptions { expected, .. })) => Some(
             expected.as_str(),
         ),
@@ -161,7 +265,7 @@ fn expected_of(task: &Task) -> Option<&str>
         | Task::Boot {
             confirmed_by: ConfirmedBy::Expected(name),
             ..
-        } => Some(name.as_str()),
+        } => opened_name(name),
         _ => None,
     }
 }

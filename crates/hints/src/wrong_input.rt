@@ -11,6 +11,10 @@ pub(crate) enum ExpectedInput {
     Log,
     /// A measurement list.
     List,
+    /// A list as text.
+    Text,
+    /// A log in any form.
+    Form,
     /// A text of expected registers.
     Expected,
     /// What tpm2-tools printed.
@@ -32,6 +36,8 @@ pub(crate) enum Mistake {
     LogForList,
     /// The list as text.
     TextForList,
+    /// The binary list, not as text.
+    ListForText,
     /// What tpm2-tools printed, not expected registers.
     PrintedForExpected,
 }
@@ -46,13 +52,15 @@ pub(crate) fn mistake_in(wanted: ExpectedInput, head: &[u8]) -> Option<Mistake>
     ensures { result ≡ mistake_in wanted head.now }
 {
     match wanted {
-        ExpectedInput::Log | ExpectedInput::List if head.is_empty() => Some(Mistake::Empty),
+        ExpectedInput::Log | ExpectedInput::List | ExpectedInput::Text | ExpectedInput::Form
+            if head.is_empty() => Some(Mistake::Empty),
         ExpectedInput::Expected | ExpectedInput::Printed if head.is_empty() => Some(
             Mistake::NothingPrinted,
         ),
-        ExpectedInput::Log if is_list(head) => Some(Mistake::ListForLog),
+        ExpectedInput::Log | ExpectedInput::Form if is_list(head) => Some(Mistake::ListForLog),
         ExpectedInput::Log if is_old_log(head) => Some(Mistake::OldLog),
-        ExpectedInput::List if is_log(head) => Some(Mistake::LogForList),
+        ExpectedInput::Text if is_list(head) => Some(Mistake::ListForText),
+        ExpectedInput::List | ExpectedInput::Text if is_log(head) => Some(Mistake::LogForList),
         ExpectedInput::List if is_text_list(head) => Some(Mistake::TextForList),
         ExpectedInput::Expected if is_printed(head) => Some(Mistake::PrintedForExpected),
         _ => None,

@@ -8,9 +8,11 @@ use Rattle.byte_streams.specs.Streams.{Sends, SinkState}
 use Rattle.byte_streams.proofs.SinkLaws.{Sends-none, Sends-then}
 use Rattle.agent_inputs.specs.declared.fault.RunFault.{RunFault}
 use Rattle.agent_inputs.specs.declared.fault.RunFault.TheVariants.{Memory}
-use Rattle.agent_inputs.specs.Loading.{Holds, Inputs, ReplacedFiles}
+use Rattle.agent_inputs.specs.Loading.{Inputs, ReplacedFiles}
+use Rattle.agent_inputs.specs.Opening.{IsReplayedOf}
 use Rattle.agent_plans.specs.declared.plan.ConfirmedBy.{ConfirmedBy}
 use Rattle.agent_plans.specs.declared.plan.DataShown.{DataShown}
+use Rattle.agent_plans.specs.declared.plan.LogFile.{LogFile}
 use Rattle.cells.specs.declared.writer.Form.{Form}
 use Rattle.cells.specs.declared.writer.Form.TheVariants.{Json, Text}
 use Rattle.agent_plans.specs.declared.plan.ComparisonKind.TheVariants as kinds
@@ -25,7 +27,7 @@ use Rattle.rendering.specs.FaultTexts.{IsFailure}
 use Rattle.judging.specs.Queries.{known_by}
 use Rattle.ima_agent.specs.Program.{Answers, IsFaultOf, IsOutcome, IsOutputFor, SendsOutput, SendsText, Streams, status_after}
 use Rattle.measured_data.specs.declared.confirmed.Pcr.{Pcr}
-use Rattle.ima_agent.specs.Matching.{AreMatched, IsKnownFor}
+use Rattle.ima_agent.specs.Matching.{AreMatched, IsKnownFor, opened_log}
 use Rattle.ima_list.specs.Names.{ListEntry, line_of}
 use Rattle.entry_lines.specs.ListLines.{entry_line}
 use Rattle.ima_agent.specs.Showing.{AreAllEntries, IsReported, ShowsEntriesOf, ShowsSoundList, entry_lines, numbered_lines}
@@ -84,8 +86,8 @@ reported_so : (form : Form) (fault : RunFault) (line : List ℕ) (status : ℕ) 
 reported_so Text fault line status is = is
 reported_so Json fault line status is = inl is
 
-module _ (inputs : Inputs) (log : String Global) (requested : DataShown) (confirmed_by : ConfirmedBy) (form : Form) (old new : ReplacedFiles)
-    (bytes : List ℕ) (held : Holds inputs (Some (string_bytes log)) bytes) (kept : new ≡ old) where
+module _ (inputs : Inputs) (log : LogFile) (requested : DataShown) (confirmed_by : ConfirmedBy) (form : Form) (old new : ReplacedFiles)
+    (bytes : List ℕ) (held : IsReplayedOf inputs (opened_log log) log.hcrtm bytes) (kept : new ≡ old) where
   abbrev Outcome : List ℕ → ℕ → Type 0
   Outcome = IsOutcome inputs (tasks.Events log requested confirmed_by) form old new
 

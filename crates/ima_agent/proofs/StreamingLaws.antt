@@ -26,7 +26,7 @@ use Rattle.cells.specs.declared.writer.Form.TheVariants.{Json, Text}
 use Rattle.agent_inputs.specs.declared.fault.RunFault.{RunFault}
 use Rattle.agent_inputs.specs.declared.fault.RunFault.TheVariants as runs
 use Rattle.agent_inputs.specs.Faults.{fault_of_list, fault_of_log}
-use Rattle.agent_inputs.specs.Loading.{GivesAll, Holds, Inputs, IsInputFault, IsNotRead, IsTooLong, input_limit}
+use Rattle.agent_inputs.specs.Loading.{Holds, Inputs, IsInputFault, IsNotRead, IsTooLong, input_limit}
 use Rattle.byte_streams.specs.declared.memory.SliceSource.{SliceSource}
 use Rattle.byte_streams.specs.Memory.{slice_source_rest, slice_source_state}
 use Rattle.ima_agent.specs.declared.streams.StreamFault.{StreamFault}
@@ -38,6 +38,7 @@ use Rattle.ima_agent.specs.Program.{IsStoppedBy, Streams}
 use Rattle.ima_agent.specs.Program as program
 use Rattle.judging.specs.Answering.{GivesInput}
 use Rattle.judging.specs.Inputs.Where.{FileOf}
+use Rattle.judging.proofs.OpeningLaws.{slice_gives_input}
 use Rattle.judging.proofs.InputLaws.{HasAll, held_more, held_whole}
 
 -- The line of `Memory`, of which there is always one.
@@ -464,10 +465,4 @@ not_opened_alone inputs name sink fault reason may =
 -- A source over the bytes of a file gives it.
 pub slice_gives : (inputs : Inputs) (name : List ℕ) (old new : SliceSource) → Holds inputs (Some name) (slice_source_rest old)
     → GivesInput inputs (FileOf name) (slice_source_state old) (slice_source_state new)
-slice_gives inputs name old new held = record {
-  all = gives_held (inputs.held (Some name)) held;
-  failing = λ failed. absurd (omega (arith, failed.counts));
-} where
-  gives_held : (known : Option (List ℕ)) → IfSome known (λ all. slice_source_rest old ≡ all) → GivesAll known (slice_source_state old)
-  gives_held None is = tt
-  gives_held (Some all) is = ap (λ (l : List ℕ). Some l) is
+slice_gives inputs name old new held = slice_gives_input inputs (FileOf name) old new held

@@ -2,8 +2,9 @@ pub mod Showing
 pub mod Matching
 pub mod ShowingEvents
 pub mod ShowingBoot
+pub mod Converting
 pub mod Program
 pub use Rattle.agent_inputs.specs.Loading
-pub use Rattle.agent_inputs.specs.Loading
+pub use Rattle.agent_inputs.specs.Opening
 pub use Rattle.agent_inputs.specs.Faults
 pub use Rattle.agent_inputs.specs.System

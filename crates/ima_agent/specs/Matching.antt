@@ -1,23 +1,29 @@
 -- The registers that match, by what the program's arguments name.
-use Rattle.std.specs.Prelude.{ℕ, List, [], Option}
+use Rattle.std.specs.Prelude.{ℕ, List, [], Option, string_bytes}
 use Rattle.cells.specs.declared.writer.Form.{Form}
 use Rattle.cells.specs.declared.writer.Form.TheVariants as told
 use Rattle.boot_verdict.specs.Names.{ReadsAsLog}
 use Rattle.measured_data.specs.declared.confirmed.Pcr.{Pcr}
 use Rattle.agent_plans.specs.declared.plan.ConfirmedBy.{ConfirmedBy}
 use Rattle.agent_plans.specs.declared.plan.ConfirmedBy.TheVariants as confirmed
+use Rattle.agent_plans.specs.declared.plan.LogFile.{LogFile}
 use Rattle.agent_inputs.specs.declared.fault.RunFault.{RunFault}
 use Rattle.agent_inputs.specs.Faults.{HasLogFault}
 use Rattle.agent_inputs.specs.Loading.{Inputs}
+use Rattle.agent_inputs.specs.Opening.{opened_name}
 use Rattle.judging.specs.Inputs.{BytesOf}
-use Rattle.judging.specs.Queries.{attested_with, file_of}
+use Rattle.judging.specs.Queries.{attested_with, input_named}
 use Rattle.confirming.specs.Matching.{ByExpected, ByNothing, ByQuote, Confirmation}
 use Rattle.confirming.specs.Matching as matching
 
--- What tells it, in the files of these names. A quote is of the log that was loaded.
+-- The name under which a log is opened whose events are shown, or that answers on a boot: `-` is standard input, which has none.
+abbrev pub opened_log : LogFile → Option (List ℕ)
+opened_log log = opened_name (string_bytes log.name)
+
+-- What tells it, in the files of these names, or in standard input for expected registers of the name `-`. A quote is of the log that was loaded.
 abbrev pub confirmation_by : ConfirmedBy → Confirmation
 confirmation_by confirmed.Nothing = ByNothing
-confirmation_by (confirmed.Expected name) = ByExpected (file_of name)
+confirmation_by (confirmed.Expected name) = ByExpected (input_named (string_bytes name))
 confirmation_by (confirmed.Quote quoting) = ByQuote (attested_with (BytesOf []) quoting)
 
 -- The registers that match after the log, if something tells it; none are compared if nothing does. And the status once all is told.

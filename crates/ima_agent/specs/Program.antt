@@ -8,6 +8,7 @@ use Rattle.agent_inputs.specs.declared.fault.RunFault.{RunFault}
 use Rattle.agent_inputs.specs.declared.fault.RunFault.TheVariants as runs
 use Rattle.agent_inputs.specs.Faults.{IsArgumentsFault, fault_of_list}
 use Rattle.agent_inputs.specs.Loading.{Inputs, IsInputFault, IsNotRead, IsTooLong, OfInput, ReplacedFiles}
+use Rattle.agent_inputs.specs.Opening.{OfReplayed, opened_name}
 use Rattle.cells.specs.declared.writer.Form.{Form}
 use Rattle.cells.specs.declared.writer.Form.TheVariants as forms
 use Rattle.agent_plans.specs.declared.plan.Plan.{Plan}
@@ -25,6 +26,8 @@ use Rattle.ima_agent.specs.declared.streams.StreamFault.{StreamFault}
 use Rattle.ima_agent.specs.declared.streams.StreamFault.TheVariants as streams
 use Rattle.rendering.specs.FaultTexts.{fault_line, fault_status, IsFailure, IsReportedAsJson}
 use Rattle.judging.specs.Queries.{known_by, requested_by, save_by}
+use Rattle.ima_agent.specs.Converting.{IsConverted, IsNotConverted}
+use Rattle.ima_agent.specs.Matching.{opened_log}
 use Rattle.ima_agent.specs.Showing.{AreAllEntries, BreaksOffAfterEntries, EndsWithFault, IsNoneInFile, IsRefusedFor, IsReported, IsWholeList, ShowsEntries, ShowsHexadecimal, StopsInFile, version_text}
 use Rattle.ima_agent.specs.ShowingBoot.{IsNoBootFor, ShowsBoot}
 use Rattle.ima_agent.specs.ShowingEvents.{BreaksOffAfterEvents, IsNoneShownFor, ShowsEvents, plain_lines}
@@ -38,9 +41,12 @@ Shows inputs (tasks.Answer question) form shown status = ⊥
 Shows inputs (tasks.Measure request) form shown status =
     ((given : Measured) × IsMeasured inputs request given × (shown ≡ print_measured form request.print given)) × (status ≡ 0)
 Shows inputs (tasks.Events log requested confirmed_by) form shown status =
-    OfInput inputs (Some (string_bytes log)) (λ bytes. ShowsEvents inputs form (plain_lines form requested) confirmed_by bytes shown status)
+    OfReplayed inputs (opened_log log) log.hcrtm (λ bytes. ShowsEvents inputs form (plain_lines form requested) confirmed_by bytes shown status)
 Shows inputs (tasks.Boot log confirmed_by before) form shown status =
-    OfInput inputs (Some (string_bytes log)) (λ bytes. ShowsBoot inputs form confirmed_by (option_map string_bytes before) bytes shown status)
+    OfReplayed inputs (opened_log log) log.hcrtm
+    (λ bytes. ShowsBoot inputs form confirmed_by log.hcrtm (option_map string_bytes before) bytes shown status)
+Shows inputs (tasks.Convert input conversion) form shown status =
+    OfInput inputs (opened_name (string_bytes input)) (λ content. IsConverted conversion content shown) × (status ≡ 0)
 Shows inputs (tasks.Entries list) forms.Text shown status =
     OfInput inputs (Some (string_bytes list)) (λ bytes. AreAllEntries (flat_map line_of) bytes shown) × (status ≡ 0)
 Shows inputs (tasks.Entries list) forms.Json shown status =
@@ -64,11 +70,15 @@ IsFaultOf inputs (tasks.Answer question) form fault =
     ⊎ ((known_by question ≡ [] → ⊥) × (fault ≡ runs.Memory))
 IsFaultOf inputs (tasks.Measure request) form fault = IsMeasuringFault inputs request fault
 IsFaultOf inputs (tasks.Events log requested confirmed_by) form fault =
-    IsInputFault inputs (Some (string_bytes log)) fault
-    ⊎ OfInput inputs (Some (string_bytes log)) (λ bytes. IsNoneShownFor inputs form (plain_lines form requested) confirmed_by bytes fault)
+    IsInputFault inputs (opened_log log) fault
+    ⊎ OfReplayed inputs (opened_log log) log.hcrtm (λ bytes. IsNoneShownFor inputs form (plain_lines form requested) confirmed_by bytes fault)
 IsFaultOf inputs (tasks.Boot log confirmed_by before) form fault =
-    IsInputFault inputs (Some (string_bytes log)) fault
-    ⊎ OfInput inputs (Some (string_bytes log)) (λ bytes. IsNoBootFor inputs confirmed_by (option_map string_bytes before) bytes fault)
+    IsInputFault inputs (opened_log log) fault
+    ⊎ OfReplayed inputs (opened_log log) log.hcrtm
+    (λ bytes. IsNoBootFor inputs confirmed_by log.hcrtm (option_map string_bytes before) bytes fault)
+IsFaultOf inputs (tasks.Convert input conversion) form fault =
+    IsInputFault inputs (opened_name (string_bytes input)) fault
+    ⊎ OfInput inputs (opened_name (string_bytes input)) (λ content. IsNotConverted conversion content fault)
 IsFaultOf inputs (tasks.Entries list) forms.Text fault =
     IsNoneInFile inputs (string_bytes list) fault
 IsFaultOf inputs task form fault = ⊥
@@ -77,7 +87,7 @@ IsFaultOf inputs task form fault = ⊥
 -- comes only of a list that had none when it was read through before.
 abbrev pub IsBrokenOff : Inputs → Task → Form → List ℕ → ℕ → Type 0
 IsBrokenOff inputs (tasks.Events log requested confirmed_by) form text status =
-    OfInput inputs (Some (string_bytes log)) (λ bytes.
+    OfReplayed inputs (opened_log log) log.hcrtm (λ bytes.
     BreaksOffAfterEvents inputs form (plain_lines form requested) confirmed_by bytes text status)
 IsBrokenOff inputs (tasks.Entries list) forms.Json text status =
     EndsWithFault (BreaksOffAfterEntries (Some forms.Json) inputs (string_bytes list)) IsReportedAsJson text status

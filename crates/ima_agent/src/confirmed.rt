@@ -1,44 +1,46 @@
 //! What tells which data of a log is confirmed, in files that the program's arguments name.
 
-ghost use Rattle.std.specs.Prelude.{◌≡◌, Some, option_map, IfErr, IfOk};
-ghost use Rattle.agent_inputs.specs.Loading.{Holds, IsInputFault};
+ghost use Rattle.std.specs.Prelude.{◌≡◌, option_map, IfErr, IfOk};
+ghost use Rattle.agent_inputs.specs.Loading.{IsInputFault};
+ghost use Rattle.agent_inputs.specs.Opening.{IsReplayedOf};
 ghost use Rattle.confirming.specs.Matching.{confirmation_of};
-ghost use Rattle.ima_agent.specs.Matching.{AreMatched, IsKnownFor, IsLookedThrough, IsNotLookedThrough, IsNotTold, confirmation_by};
+ghost use Rattle.ima_agent.specs.Matching.{AreMatched, IsKnownFor, IsLookedThrough, IsNotLookedThrough, IsNotTold, confirmation_by, opened_log};
 
-use agent_inputs::{AgentFiles, RunFault, load_input};
-use agent_plans::{ConfirmedBy, Form, Quoting, SigningOptions};
+use agent_inputs::{AgentFiles, RunFault, load_log, opened_name};
+use agent_plans::{ConfirmedBy, Form, LogFile, Quoting, SigningOptions};
 use boot_log::LogView;
 use confirming::{Confirming, Matched, matching_in};
-use judging::{Input, attesting_by};
+use judging::{Input, attesting_by, input_named};
 use std::alloc::Global;
 
-/// What tells which registers match, of the files of these names.
+/// What tells which registers match, of the files of these names; `-` is standard input for expected registers.
 pub(crate) fn confirming_by(confirmed_by: &ConfirmedBy) -> Confirming<'_>
     ensures { confirmation_of result ≡ confirmation_by confirmed_by.now }
 {
     match confirmed_by {
         ConfirmedBy::Nothing => Confirming::Nothing,
-        ConfirmedBy::Expected(name) => Confirming::Expected(Input::File(name)),
+        ConfirmedBy::Expected(name) => Confirming::Expected(input_named(name)),
         ConfirmedBy::Quote(quoting) => Confirming::Quote(attesting_by(Input::Bytes(&[]), quoting)),
     }
 }
 
-/// The log in the file of this name. Where a signature is verified, the log and all that is read after it have to be regular files.
-pub(crate) fn load_log<F: AgentFiles>(
+/// What is replayed of this log; `-` is standard input. Where a signature is verified, other logs and all that is read after them have to be
+/// regular files.
+pub(crate) fn log_for<F: AgentFiles>(
     alloc: Global,
     files: &mut F,
-    log: &str,
+    log: &LogFile,
     confirmed_by: &ConfirmedBy,
 ) -> Result<Vec<u8>, RunFault>
-    ensures all { IfOk result (λ bytes. Holds (F.inputs files.old) (Some log.now) bytes.items) }
-    ensures fault { IfErr result (IsInputFault (F.inputs files.old) (Some log.now)) }
+    ensures all { IfOk result (λ bytes. IsReplayedOf (F.inputs files.old) (opened_log log.now) log.now.hcrtm bytes.items) }
+    ensures fault { IfErr result (IsInputFault (F.inputs files.old) (opened_log log.now)) }
     ensures inputs { F.inputs files.new ≡ F.inputs files.old }
     ensures replaced { F.replaced files.new ≡ F.replaced files.old }
 {
     if is_by_key(confirmed_by) {
         files.take_only_regular_files();
     }
-    load_input(alloc, files, Some(log))
+    load_log(alloc, files, opened_name(&log.name), log.hcrtm)
 }
 
 // Whether a signature is verified.

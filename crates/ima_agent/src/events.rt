@@ -6,22 +6,21 @@ ghost use Rattle.agent_plans.specs.declared.plan.Task.TheVariants as tasks;
 ghost use Rattle.ima_agent.specs.Program.{IsOutcome, Streams};
 ghost use Rattle.ima_agent.specs.ShowingEvents.{ShowsEventsIn, ShowsPlainEventsIn, ShowsToldOf, plain_lines};
 
-use crate::confirmed::{load_log, matched_in};
+use crate::confirmed::{log_for, matched_in};
 use crate::streams::{DONE, Sent, StreamFault};
 use agent_inputs::{AgentFiles, RunFault};
-use agent_plans::{ConfirmedBy, DataShown, Form};
+use agent_plans::{ConfirmedBy, DataShown, Form, LogFile};
 use boot_log::LogView;
 use byte_streams::{Failed, Sink};
 use event_lines::{EventsFault, send_events, write_events};
 use measured_data::Pcr;
 use std::alloc::Global;
 
-/// Sends the header and the events of the log in the file of this name, in this form. Where what data says is told, this tells which of it is
-/// confirmed.
+/// Sends the header and the events of this log as it is replayed, in this form. Where what data says is told, this tells which of it is confirmed.
 pub(crate) fn events_for<F: AgentFiles, S: Sink>(
     alloc: Global,
     files: &mut F,
-    log: &String,
+    log: &LogFile,
     requested: DataShown,
     confirmed_by: &ConfirmedBy,
     form: Form,
@@ -30,7 +29,7 @@ pub(crate) fn events_for<F: AgentFiles, S: Sink>(
     ensures { Streams form (IsOutcome (F.inputs files.old) (tasks.Events log.now requested confirmed_by.now) form (F.replaced files.old) (F.replaced files.new))
         (S.state sink.old) (S.state sink.new) result }
 {
-    let bytes = match load_log(alloc, files, log, confirmed_by) {
+    let bytes = match log_for(alloc, files, log, confirmed_by) {
         Ok(bytes) => bytes,
         Err(fault) => return Err(StreamFault::Run(fault)),
     };

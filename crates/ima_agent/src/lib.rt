@@ -5,6 +5,7 @@
 
 mod boot;
 mod confirmed;
+mod convert;
 mod events;
 mod hexadecimal;
 pub mod laws;
@@ -18,8 +19,8 @@ pub use agent_inputs::{
     SystemFiles, WriteSink, hash_from, load,
 };
 pub use agent_plans::{
-    AttestOptions, ComparisonKind, ComparisonOptions, ConfirmedBy, DataShown, Form, Measurement,
-    NameEnd, Names, Plan, Print, Query, Quoting, Scope, SigningOptions, Task,
+    AttestOptions, ComparisonKind, ComparisonOptions, ConfirmedBy, Conversion, DataShown, Form,
+    LogFile, Measurement, NameEnd, Names, Plan, Print, Query, Quoting, Scope, SigningOptions, Task,
 };
 pub use answers::{write_positions, write_report};
 pub use boot_verdict::{

@@ -12,6 +12,7 @@ ghost use Rattle.rendering.specs.FaultTexts.{fault_status, IsFailure};
 ghost use Rattle.ima_agent.specs.Program.{Answers, IsFaultOf, IsOutcome, IsOutput, IsOutputFor, IsOutputOf, SendsOutput, SendsText, Streams, status_after};
 
 use crate::boot::boot_for;
+use crate::convert::converted_for;
 use crate::events::events_for;
 use crate::shown::{entries_for, shown_registers};
 use crate::streams::{DONE, Prepared, Sent, StreamFault};
@@ -98,7 +99,8 @@ fn exits_with(status: u8) -> ExitCode
 /// and the list each of these registers first has its value; `expected` writes the lines of expected registers, from what tpm2-tools
 /// printed; `key` writes what is told of a TPM's key; `registers` writes the registers that differ from their reset values after a log, and `replay` those after a list alone,
 /// or the report on the list alone and expected registers; `events` writes the lines of a log's events, `boot` what they answer on the boot,
-/// and `show` the lines of a list's entries; `--help` writes the help, and `--version` the version.
+/// and `show` the lines of a list's entries; `list` and `log` write a list or a log of another form in the form that these read; `--help` writes the
+/// help, and `--version` the version. With `--hcrtm` a log's H-CRTM event tells where the machine started.
 ///
 /// The whole output is prepared before its first byte is written; a fault is written as one line. But `events` looks its log through
 /// for a fault, and then writes the lines of the events one after another, so that memory does not grow with them; `show` reads its list through for a
@@ -125,8 +127,8 @@ pub fn run<R: Threads + Wait + Sync, F: AgentFiles, S: Sink>(
     run_with_progress(rt, alloc, arguments, files, sink, &NoProgress)
 }
 
-/// As [`run`]; also reports to `progress` how many files of a measurement are done, that standard input is about to be read, and, after the
-/// output, why the run failed, or that something differs or nothing was compared. Output and status are the same.
+/// As [`run`]; also reports to `progress` how many files of a measurement are done, that standard input is about to be read, how much padding a
+/// converted log lost, and, after the output, why the run failed, or that something differs or nothing was compared. Output and status are the same.
 pub fn run_with_progress<R: Threads + Wait + Sync, F: AgentFiles, S: Sink, P: Progress>(
     rt: &R,
     alloc: Global,
@@ -197,6 +199,7 @@ fn tell_difference<P: Progress>(alloc: Global, task: &Task, status: u8, progress
     match status {
         DIFFERS => progress.explain(alloc, Failure::Differs { task }),
         UNSIGNED => progress.explain(alloc, Failure::Unsigned { task }),
+        DONE => progress.explain(alloc, Failure::Matches { task }),
         _ => {}
     }
 }
@@ -234,6 +237,10 @@ fn perform<R: Threads + Wait + Sync, F: AgentFiles, S: Sink, P: Progress>(
             before,
         } => send_output(
             boot_for(alloc, files, log, confirmed_by, before, form),
+            sink,
+        ),
+        Task::Convert { input, conversion } => send_output(
+            converted_for(alloc, files, input, *conversion, progress),
             sink,
         ),
         Task::Entries { list } => entries_for(alloc, files, list, form, sink),

@@ -1,6 +1,6 @@
 -- Registers read one after another, and joined.
-use Rattle.std.proofs.Common.{◌≡◌, ℕ, zero, suc, ◌+◌, ◌<◌, true, List, [], ◌∷◌, ◌++◌, length, get_or, map, Option, Some, None, refl, sym, ap, ◌∙◌, append_assoc, arith}
-use Rattle.std.specs.Prelude.{option_map}
+use Rattle.std.proofs.Common.{◌≡◌, ℕ, zero, suc, ◌+◌, ◌<◌, false, true, List, [], ◌∷◌, ◌++◌, length, get_or, map, Option, Some, None, refl, sym, ap, ◌∙◌, append_assoc, arith}
+use Rattle.std.specs.Prelude.{IsTrue, is_some, option_map}
 use Rattle.std.specs.List.{range_with_len}
 use Rattle.std.proofs.lemmas.List.{append-nil}
 use Rattle.std.proofs.lemmas.List.FromFn.{map-range_with_len_more, length-map-range_with_len, get_or-map-range_with_len}
@@ -8,9 +8,9 @@ use Rattle.pcr_banks.specs.declared.alg.Alg.{Alg}
 use Rattle.pcr_banks.specs.declared.banks.Banks.{Banks}
 use Rattle.pcr_banks.specs.declared.digest.Digest.{Digest}
 use Rattle.pcr_banks.specs.declared.hasher.Hasher.{Hasher}
-use Rattle.pcr_banks.specs.Names.{HasTaken, bank_of, bytes_of, digest_of, hash_of, is_active, value_at}
+use Rattle.pcr_banks.specs.Names.{HasTaken, bank_of, bytes_of, digest_of, hash_of, in_bank, is_active, value_at}
 use Rattle.pcr_banks.proofs.BankLaws.{some_digest, no_digest, read_value, read_none, active_bank}
-use Rattle.ima_list.specs.Names.{aggregate_register_count, all_joined, boot_aggregate_of, joined_values}
+use Rattle.ima_list.specs.Names.{aggregate_register_count, all_joined, boot_aggregate_of, joined_values, old_register_count}
 
 -- ---- values joined
 
@@ -84,6 +84,13 @@ joined_next old new banks alg register digest before e update =
       taken = update alg before.text before.taken;
       active = λ lt. active_bank (bank_of banks alg) register (bytes_of digest) value;
     }
+
+-- A bank that is not active has no old aggregate.
+pub not_active : (bank : Option (List (List ℕ))) (hash : List ℕ → List ℕ) → (IsTrue (is_some bank) → IsTrue false)
+    → option_map hash (joined_values (in_bank bank) old_register_count) ≡ None
+unfolding joined_values
+not_active None hash inactive = refl
+not_active (Some registers) hash inactive = let differ : false ≡ true = inactive refl in absurd cc
 
 -- Where a register has no value, there is no aggregate.
 pub lacks_none : (banks : Banks) (alg : Alg) (count register : ℕ) → count ≡ aggregate_register_count alg → register < count

@@ -29,3 +29,12 @@ joined_values value_of count = all_joined (map value_of (range_with_len 0 count)
 -- is not active.
 abbrev pub boot_aggregate_of : Banks → Alg → Option (List ℕ)
 boot_aggregate_of banks alg = option_map (hash_of alg) (joined_values (value_at banks alg) (aggregate_register_count alg))
+
+-- How many registers, from PCR 0 on, the aggregate of a kernel before 5.8 covers in each bank: since then it covers PCRs 8 and 9 in banks
+-- other than SHA-1 (the kernel's security/integrity/ima/ima_crypto.c, ima_calc_boot_aggregate_tfm).
+abbrev pub old_register_count : ℕ
+old_register_count = 8
+
+-- It is the hash of these registers' values in the bank, joined.
+abbrev pub old_aggregate : (Alg → ℕ → Option (List ℕ)) → Alg → Option (List ℕ)
+old_aggregate values alg = option_map (hash_of alg) (joined_values (values alg) old_register_count)

@@ -8,6 +8,7 @@ pub mod Templates
 pub mod Replaying
 pub mod Fields
 pub mod KernelFields
+pub mod EntryFiles
 pub mod Lines
 pub mod Aggregates
 pub mod Pieces

@@ -1,8 +1,9 @@
 -- What other crates name of the definitions of `ima_list`.
-pub use Rattle.ima_list.specs.Aggregates.{aggregate_register_count, all_joined, boot_aggregate_of, boot_aggregate_path}
+pub use Rattle.ima_list.specs.Aggregates.{aggregate_register_count, all_joined, boot_aggregate_of, boot_aggregate_path, old_aggregate, old_register_count}
 unfoldable pub use Rattle.ima_list.specs.Aggregates.{joined_values}
 pub use Rattle.ima_list.specs.Digesting.{IsGenuine, bank_digest, filled, hashed_bytes, hashed_payload, is_violation, violation_digest}
 pub use Rattle.ima_list.specs.EntriesIn.{unread}
+pub use Rattle.ima_list.specs.EntryFiles.{FileTold, file_of, kernel_file_of, told_of}
 pub use Rattle.ima_list.specs.FieldKinds.{FileFields, IsSized, Suits, after_prefix, content_in, digest_by, digest_field, digest_in_field, field_content, field_spelling, field_text, file_fields_of, has_nul, is_bare, measured, name_field, no_fields, path_in_field, told, violated, with_digest, with_path, with_sig}
 pub use Rattle.ima_list.specs.Fields.{HasFields, IsMadeOf, fields_in, fields_of}
 pub use Rattle.ima_list.specs.KernelFields.{AreFields, FieldData, FieldsRead, IsField, and_more, fields_left, if_content, is_content, is_end, is_read, kernel_fields_of, left_of, type_prefix, typed_digest_in}

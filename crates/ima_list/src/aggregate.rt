@@ -1,6 +1,6 @@
 ghost use Rattle.std.specs.Prelude.{◌≡◌, option_map, is_some};
-ghost use Rattle.pcr_banks.specs.Names.{digest_of, is_active};
-ghost use Rattle.ima_list.specs.Aggregates.{aggregate_register_count, boot_aggregate_of};
+ghost use Rattle.pcr_banks.specs.Names.{digest_of, is_active, value_at};
+ghost use Rattle.ima_list.specs.Aggregates.{aggregate_register_count, boot_aggregate_of, old_aggregate};
 
 use pcr_banks::{Alg, Banks, Digest, Hasher};
 
@@ -16,6 +16,21 @@ pub fn boot_aggregate(banks: &Banks, alg: Alg) -> Option<Digest>
     let mut hasher = Hasher::new(alg);
     for register in 0..aggregate_register_count(alg) {
         hasher.update(banks.read(alg, register)?.bytes());
+    }
+    Some(hasher.finish())
+}
+
+// How many registers, from PCR 0 on, the boot aggregate of a kernel before 5.8 covers.
+const OLD_COUNT: u32 = 8;
+
+/// The boot aggregate as kernels before 5.8 make it: the hash of PCR 0 to 7 joined, in each bank. `None` exactly where the bank is not
+/// active.
+pub fn old_boot_aggregate(registers: &Banks, alg: Alg) -> Option<Digest>
+    ensures { result ≡ option_map (digest_of alg) (old_aggregate (value_at registers.now) alg) }
+{
+    let mut hasher = Hasher::new(alg);
+    for register in 0..OLD_COUNT {
+        hasher.update(registers.read(alg, register)?.bytes());
     }
     Some(hasher.finish())
 }

@@ -6,6 +6,7 @@
 
 mod aggregate;
 mod entry;
+mod entry_file;
 mod entry_hashes;
 mod entry_reader;
 mod entry_ref;
@@ -22,9 +23,10 @@ mod list_replay;
 mod payload;
 mod template;
 
-pub use aggregate::{BOOT_AGGREGATE_PATH, boot_aggregate};
+pub use aggregate::{BOOT_AGGREGATE_PATH, boot_aggregate, old_boot_aggregate};
 pub use byte_streams::{Failed, Sink, SliceSource, Source, VecSink, send, send_pieces};
 pub use entry::Entry;
+pub use entry_file::{file_of, kernel_file_of};
 pub use entry_reader::{Entries, read_list};
 pub use entry_ref::EntryRef;
 pub use entry_writer::{send_entry, write_entry};

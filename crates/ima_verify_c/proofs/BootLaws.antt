@@ -1,5 +1,5 @@
 -- What was made of the PCRs that match, or of a boot, once it is given.
-use Rattle.std.proofs.Common.{◌≡◌, ℕ, List, refl, sym, ◌∙◌, inl, inr, Option, None, Some, Result, Ok, Err}
+use Rattle.std.proofs.Common.{◌≡◌, ℕ, List, refl, inl, inr, Option, None, Some, Result, Ok, Err}
 use Rattle.std.specs.Prelude.{ℤ, ◌⊎◌, IfErr, IfOk}
 use Rattle.agent_inputs.specs.declared.fault.RunFault.{RunFault}
 use Rattle.agent_inputs.specs.declared.fault.RunFault.TheVariants.{Memory}

@@ -7,6 +7,7 @@ use Rattle.std.proofs.lemmas.List.{length-map}
 use Rattle.std.proofs.lemmas.List.Folds.{list_all_at}
 use Rattle.pcr_banks.specs.declared.alg.Alg.{Alg}
 use Rattle.pcr_banks.specs.declared.alg.Alg.TheVariants.{Sha1, Sha256, Sha384, Sha512}
+use Rattle.pcr_banks.specs.Names.{value_at}
 use Rattle.pcr_banks.proofs.AlgLaws.{every_passes}
 use Rattle.pcr_values.specs.declared.expected.Expected.{Expected}
 use Rattle.pcr_values.specs.declared.selection.BankRange.{BankRange}
@@ -19,7 +20,7 @@ use Rattle.boot_verdict.specs.declared.list_verifier.ListReport.{ListReport}
 use Rattle.boot_verdict.specs.declared.report.PrefixReport.{PrefixReport}
 use Rattle.boot_verdict.specs.declared.report.Report.{Report}
 use Rattle.boot_verdict.specs.declared.report.Row.{Row}
-use Rattle.boot_verdict.specs.Names.{IsRequirementText, bind_list, expected_of_rows, is_complete, is_complete_in, is_missing, list_register, list_verdict_of, matches, row_on, verdict_of, Verdict}
+use Rattle.boot_verdict.specs.Names.{IsRequirementText, bind_list, expected_of_rows, is_complete, is_complete_in, is_missing, list_register, list_verdict_of, matches, pcr_after_log_and_list, row_on, verdict_of, Verdict}
 use Rattle.known_files.specs.Unknown.{has_no_unknown}
 use Rattle.agent_inputs.specs.declared.fault.FaultKind.{FaultKind}
 use Rattle.agent_inputs.specs.declared.fault.FaultKind.TheVariants as kinds
@@ -30,6 +31,7 @@ use Rattle.attestations.specs.declared.expected.ExpectedValues.{ExpectedValues}
 use Rattle.attestations.specs.declared.signature.SignatureState.{SignatureState}
 use Rattle.attestations.specs.Reports.{attest_verdict_of, is_signed}
 use Rattle.tpm_quotes.specs.Spelling.{TpmQuote}
+use Rattle.tpm_quotes.specs.Quoting.{Values}
 use Rattle.agent_plans.specs.declared.plan.Scope.{Scope}
 use Rattle.agent_plans.specs.declared.plan.Scope.TheVariants.{Prefix, Whole}
 use Rattle.cells.specs.declared.writer.Form.{Form}
@@ -37,9 +39,9 @@ use Rattle.cells.specs.declared.writer.Form.TheVariants.{Json, Text}
 use Rattle.judging.specs.declared.request.Answer.{Answer}
 use Rattle.judging.specs.declared.request.Answer.TheVariants as answers
 use Rattle.judging.specs.declared.request.Answered.{Answered}
-use Rattle.judging.specs.Answering.{Evidence, IsAnswerOn, IsComparison, IsJudged, IsPrefixOf, IsRequired, IsVerdictOn, OfList, TellsUnknown, entries_taken, is_good, seeks_prefix}
+use Rattle.judging.specs.Answering.{Evidence, IsAnswerOn, IsComparison, IsJudged, IsPrefixOf, IsRequired, IsVerdictOn, OfList, TellsUnknown, entries_taken, is_good, seeks_prefix, whole_of}
 use Rattle.judging.specs.Inputs.{BytesOf, Where}
-use Rattle.judging.specs.Requests.{Any, Compared, Compares, ListVerdictOf, Nothing, Requires, These, VerdictOf}
+use Rattle.judging.specs.Requests.{Any, Compared, Compares, ListVerdictOf, Nothing, Requires, These, VerdictOf, WholeVerdictOf}
 use Rattle.rendering.specs.Rendering.{answer_status}
 use Rattle.rendering.specs.Summaries.{summary_of}
 use Rattle.rendering.specs.declared.summary.Summary.{Summary}
@@ -102,6 +104,8 @@ kind_some kinds.NotHex e = absurd cc
 kind_some kinds.Log e = absurd cc
 kind_some kinds.List e = absurd cc
 kind_some kinds.Replay e = absurd cc
+kind_some kinds.ListText e = absurd cc
+kind_some kinds.LogForm e = absurd cc
 kind_some kinds.Expect e = absurd cc
 kind_some kinds.Quote e = absurd cc
 kind_some kinds.Signature e = absurd cc
@@ -194,13 +198,14 @@ of_each : (scope : Scope) (list : Where) (evidence : Evidence) (Tells : List Lis
     (values : ExpectedValues) (on : _) (answer : Answer) (Q : Type 0) → ((report : Report) → answer ≡ answers.Report report → Q)
     → ((prefix : PrefixReport) → seeks_prefix scope evidence ≡ true
     → OfList unknown list evidence.checkpoint (λ all. IsPrefixOf evidence Tells all prefix next) → answer ≡ answers.Prefix prefix → Q)
-    → IsVerdictOn unknown scope list evidence Tells on next → IsAnswerOn None signature values on next answer → Q
+    → IsVerdictOn unknown scope list evidence Tells on next → IsAnswerOn None signature values on (value_at next.after) answer → Q
 of_each scope list evidence Tells next signature values on answer Q whole part is answered = grind (arith, whole, part)
 
 -- A verdict on a log and a list, or on its confirmed prefix.
-module _ (place : Where) (scope : Scope) (resume : Option Where) (list expected require : List ℕ) (known : List Where) (before : IsOfSomeList resume) where
+module _ (place : Where) (scope : Scope) (resume : Option Where) (old_kernel : Bool) (list expected require : List ℕ) (known : List Where)
+    (before : IsOfSomeList resume) where
   abbrev asked : Compared
-  asked = compared_by (VerdictOf place scope resume) list expected require known
+  asked = compared_by (VerdictOf place scope resume) old_kernel list expected require known
 
   -- The rows of a prefix are those of the expected registers.
   prefix_rows : (given : Answered) (is : IsComparison unknown asked given) (prefix : PrefixReport) (next : Checkpoint) (Tells : List ListEntry → Type 0)
@@ -219,7 +224,7 @@ module _ (place : Where) (scope : Scope) (resume : Option Where) (list expected 
       → IsJudged unknown (VerdictOf place scope resume) (BytesOf list) is.evidence given.answer next given.unknown → 0 < (summary_of given).compared
   judged_compares given is success None on = absurd on
   judged_compares given is success (Some next) on =
-      let plain = subst (λ (quote : Option TpmQuote). IsAnswerOn quote is.evidence.signature is.evidence.values on.0 next given.answer)
+      let plain = subst (λ (quote : Option TpmQuote). IsAnswerOn quote is.evidence.signature is.evidence.values on.0 (value_at next.after) given.answer)
       is.evidence_is.none_quoted on.2 in
       of_each scope (BytesOf list) is.evidence (TellsUnknown is.evidence.known_files (entries_taken is.evidence.checkpoint) given.unknown) next
       is.evidence.signature is.evidence.values on.0 given.answer (0 < (summary_of given).compared)
@@ -234,10 +239,32 @@ module _ (place : Where) (scope : Scope) (resume : Option Where) (list expected 
       let good = given_good asked form text fault state summary given in
       rw good.3 (judged_compares good.0 good.1 good.2 good.1.next good.1.judged)
 
+-- A verdict on a log and a whole list, from which nobody goes on.
+module _ (place : Where) (old_kernel : Bool) (list expected require : List ℕ) (known : List Where) where
+  abbrev whole : Compared
+  whole = compared_by (WholeVerdictOf place) old_kernel list expected require known
+
+  whole_compares : (given : Answered) (is : IsComparison unknown whole given) → given.is_success ≡ true → (next : Option Checkpoint)
+      → IsJudged unknown (WholeVerdictOf place) (BytesOf list) is.evidence given.answer next given.unknown → 0 < (summary_of given).compared
+  whole_compares given is success (Some next) judged = absurd judged
+  whole_compares given is success None judged =
+      let on = judged.2 in
+      let registers : Values = pcr_after_log_and_list (algs_in on.verdict_is.table) on.verdict_is.events on.verdict_is.entries in
+      let plain : given.answer ≡ answers.Report on.report =
+      subst (λ (quote : Option TpmQuote). IsAnswerOn quote is.evidence.signature is.evidence.values (whole_of on.report) registers given.answer)
+      is.evidence_is.none_quoted on.answer_is in
+      by_report whole (some_required require) given is success on.report plain
+
+  pub whole_verdict_compares : (form : Form) (text : List ℕ) (fault : Option RunFault) (state : List ℕ) (summary : Summary)
+      → IsAnswerAndNext (Compares whole) form text 0 fault state summary → 0 < summary.compared
+  whole_verdict_compares form text fault state summary given =
+      let good = given_good whole form text fault state summary given in
+      rw good.3 (whole_compares good.0 good.1 good.2 good.1.next good.1.judged)
+
 -- A verdict on a list alone.
 module _ (list expected require : List ℕ) (known : List Where) where
   abbrev alone : Compared
-  alone = compared_by ListVerdictOf list expected require known
+  alone = compared_by ListVerdictOf false list expected require known
 
   list_compares : (given : Answered) (is : IsComparison unknown alone given) → given.is_success ≡ true → (answer : Answer) (next : Option Checkpoint)
       → given.answer ≡ answer → IsJudged unknown ListVerdictOf (BytesOf list) is.evidence answer next given.unknown → 0 < (summary_of given).compared

@@ -3,10 +3,8 @@ use Rattle.std.proofs.Common.{◌≡◌, ℕ, arith, Bool, true, false, List, []
 use Rattle.std.specs.Prelude.{ℤ, ◌⊎◌}
 use Rattle.agent_inputs.specs.declared.fault.RunFault.{RunFault}
 use Rattle.agent_inputs.specs.declared.fault.RunFault.TheVariants.{Memory}
-use Rattle.agent_inputs.specs.Loading.{unknown}
 use Rattle.cells.specs.declared.writer.Form.{Form}
 use Rattle.judging.specs.Requests.{Requested, Signing}
-use Rattle.rendering.specs.Rendering.{IsRefusalOn}
 use Rattle.rendering.specs.Summaries.{no_summary}
 use Rattle.ima_verify_c.specs.declared.text_info.TextInfo.{TextInfo}
 use Rattle.ima_verify_c.specs.Answers.{Answers, AnswersAsked, AnswersCounted, AnswersMore, HasNoAnswerOn, HasNoNonce, IsAnswerAndNext, IsAnswerTo, IsAnswerWith, IsNoNonce, IsNoReport, IsRefusal}
@@ -37,10 +35,10 @@ no_numbers : (fits : Bool) (old : List ℕ) → numbers_if false no_summary old 
 no_numbers false old = refl
 no_numbers true old = refl
 
-module _ (request : Requested) (form : Form) (fault : RunFault) (answer : ℤ) (info : TextInfo) (old new : List ℕ) (reason : IsRefusalOn unknown request fault)
+module _ (request : Requested) (form : Form) (fault : RunFault) (answer : ℤ) (info : TextInfo) (old new : List ℕ) (reason : HasNoAnswerOn request fault)
     (given : Answers (IsRefusal (λ reason. (reason ≡ fault) ⊎ (reason ≡ Memory)) form) answer info old new) where
   refusal : Answers (IsRefusal (HasNoAnswerOn request) form) answer info old new
-  refusal = refused (HasNoAnswerOn request) form fault answer info old new (inl reason) (inr refl) given
+  refusal = refused (HasNoAnswerOn request) form fault answer info old new reason (inr refl) given
 
   -- The line of a fault was given.
   pub gives_refusal : Answers (IsAnswerTo request form) answer info old new

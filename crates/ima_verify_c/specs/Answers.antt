@@ -50,6 +50,8 @@ head_info size kinds.Quote number place = info_with size 8 number place
 head_info size kinds.Key number place = info_with size 9 number place
 head_info size kinds.Known number place = info_with size 10 number place
 head_info size kinds.Signature number place = info_with size 11 number place
+head_info size kinds.ListText number place = info_with size 12 number place
+head_info size kinds.LogForm number place = info_with size 13 number place
 head_info size kind number place = info_with size 0 None None
 
 -- What is reported of a text of this size, which is the line of the fault, if there is one.

@@ -1,5 +1,5 @@
 -- What a call requests of the PCRs that match, of events and of a boot, and what it gives.
-use Rattle.std.specs.Prelude.{ℕ, ◌==◌, ◌&&◌, not, if◌then◌else◌, Bool, true, false, List, [], ◌∷◌, ◌++◌, length, Option, None, Some, option_map, IsSomeAnd, Result, Ok, Err, ◌≡◌, ◌⊎◌, ℤ, pos}
+use Rattle.std.specs.Prelude.{ℕ, ◌==◌, ◌&&◌, not, if◌then◌else◌, Bool, true, false, List, [], length, Option, None, Some, option_map, IsSomeAnd, Result, Ok, Err, ◌≡◌, ◌⊎◌, ℤ, pos}
 use Rattle.agent_inputs.specs.declared.fault.RunFault.{RunFault}
 use Rattle.agent_inputs.specs.declared.fault.RunFault.TheVariants.{Memory, Usage}
 use Rattle.agent_inputs.specs.Loading.{unknown}
@@ -27,7 +27,8 @@ abbrev pub is_none : List ℕ → Bool
 is_none bytes = length bytes == 0
 
 -- What the caller gives: which tells it, the text of expected PCRs, and of a quote the list, the message, the key, the signature, the nonce as bytes
--- or as digits, the PCRs that must be quoted, whether one may be in the SHA-1 bank alone, and whether the signature was verified.
+-- or as digits, the PCRs that must be quoted, whether one may be in the SHA-1 bank alone, whether an older kernel's boot aggregate is taken, and
+-- whether the signature was verified.
 pub record Given : Type 0 where
   pub by : ℕ
   pub expected : List ℕ
@@ -39,6 +40,7 @@ pub record Given : Type 0 where
   pub nonce_hex : List ℕ
   pub require : List ℕ
   pub allow_sha1 : Bool
+  pub old_kernel : Bool
   pub signature_checked : Bool
 
 abbrev pub given_of : Evidence → Given
@@ -53,6 +55,7 @@ given_of evidence = record {
   nonce_hex = evidence.nonce_hex.now;
   require = evidence.require.now;
   allow_sha1 = evidence.allow_sha1;
+  old_kernel = evidence.old_kernel;
   signature_checked = evidence.signature_checked;
 }
 
@@ -60,7 +63,7 @@ given_of evidence = record {
 abbrev pub has_no_quote : Given → Bool
 has_no_quote given =
     is_none given.list && is_none given.message && is_none given.key && is_none given.signature && is_none given.nonce && is_none given.nonce_hex
-    && is_none given.require && not given.allow_sha1 && not given.signature_checked
+    && is_none given.require && not given.allow_sha1 && not given.old_kernel && not given.signature_checked
 
 -- The quote, and what it must be, without its nonce. Its log is given apart.
 abbrev pub quote_in : Given → Signing → AttestRequested
@@ -71,10 +74,12 @@ quote_in given signing = record {
   nonce = [];
   required = given.require;
   takes_sha1 = given.allow_sha1;
+  old_kernel = given.old_kernel;
   signing = signing;
   expected = None;
   scope = Whole;
   resume = None;
+  saves = false;
   known = [];
 }
 

@@ -23,6 +23,8 @@ kind_of number =
     else if number == 9 then Some kinds.Key
     else if number == 10 then Some kinds.Known
     else if number == 11 then Some kinds.Signature
+    else if number == 12 then Some kinds.ListText
+    else if number == 13 then Some kinds.LogForm
     else None
 
 -- The event, the entry or the line; nothing if the error names none.

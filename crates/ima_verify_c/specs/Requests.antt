@@ -9,13 +9,15 @@ use Rattle.hex.specs.Hex.{decode_of}
 use Rattle.hex.specs.declared.error.FromHexError.{FromHexError}
 use Rattle.agent_inputs.specs.Loading.{unknown}
 use Rattle.judging.specs.Answering.{IsResumedState, IsTaken, checkpoint_of}
-use Rattle.judging.specs.Requests.{Any, Attests, ByCaller, ByKey, Requested, Compared, Compares, Judgement, KeyOf, ListRegistersOf, ListVerdictOf, LogRegistersOf, NotChecked, PositionsOf, Requires, Signing, These, VerdictOf}
+use Rattle.judging.specs.Requests.{Any, Attests, ByCaller, ByKey, Requested, Compared, Compares, Judgement, KeyOf, ListRegistersOf, ListVerdictOf, LogRegistersOf, NotChecked, PositionsOf, Requires, Signing, These, VerdictOf, WholeVerdictOf}
 use Rattle.judging.specs.Inputs.{BytesOf, Where}
 use Rattle.tpm_keys.specs.declared.kinds.KeyPart.TheVariants.{All}
 use Rattle.tpm_keys.specs.declared.kinds.Purpose.{Purpose}
 use Rattle.tpm_keys.specs.declared.kinds.Purpose.TheVariants.{Attestation, Endorsement}
 use Rattle.ima_verify_c.specs.declared.nonce.Nonce.{Nonce}
 use Rattle.ima_verify_c.specs.declared.nonce.Nonce.TheVariants.{Decoded, Given}
+use Rattle.ima_verify_c.specs.declared.replayed.Replayed.{Replayed}
+use Rattle.ima_verify_c.specs.declared.replayed.Replayed.TheVariants as logs
 
 abbrev pub form_of : Bool → Form
 form_of json = if json then Json else Text
@@ -33,18 +35,20 @@ required_by text = if bytes_eq text (codes "none") then Any else These text
 abbrev pub known_in : Bool → List ℕ → List Where
 known_in given text = if given then BytesOf text ∷ [] else []
 
--- What a list is worth against expected PCRs, with these texts of known files.
-abbrev pub compared_by : Judgement → List ℕ → List ℕ → List ℕ → List Where → Compared
-compared_by judgement list expected require known = record {
+-- What a list is worth against expected PCRs, with these texts of known files; whether an older kernel's boot aggregate is taken, which counts only
+-- where the text names PCRs that have to be among the expected ones.
+abbrev pub compared_by : Judgement → Bool → List ℕ → List ℕ → List ℕ → List Where → Compared
+compared_by judgement old_kernel list expected require known = record {
   judgement = judgement;
   list = BytesOf list;
   expected = BytesOf expected;
   required = required_by require;
+  old_kernel = old_kernel;
   known = known;
 }
 
-abbrev pub requested_by : Judgement → List ℕ → List ℕ → List ℕ → List Where → Requested
-requested_by judgement list expected require known = Compares (compared_by judgement list expected require known)
+abbrev pub requested_by : Judgement → Bool → List ℕ → List ℕ → List ℕ → List Where → Requested
+requested_by judgement old_kernel list expected require known = Compares (compared_by judgement old_kernel list expected require known)
 
 -- The whole list, or its confirmed prefix.
 abbrev pub scope_of : Bool → Scope
@@ -62,19 +66,21 @@ IsOfSomeList resume = (known : Option SavedState) → IsResumedState unknown res
 abbrev pub verdict_of : List ℕ → List ℕ → Bool → Judgement
 verdict_of log state prefix = VerdictOf (BytesOf log) (scope_of prefix) (resume_of state)
 
--- The verdict on a log and a list; where the PCRs have their values; and the verdict on a list alone.
-abbrev pub requested_of_verdict : List ℕ → List ℕ → List ℕ → List ℕ → List Where → Requested
-requested_of_verdict log list expected require known = requested_by (VerdictOf (BytesOf log) Whole None) list expected require known
+-- The verdict on a log and a list; and, where no boot aggregate is looked at, where the PCRs have their values, and the verdict on a list alone.
+abbrev pub requested_of_verdict : List ℕ → Bool → List ℕ → List ℕ → List ℕ → List Where → Requested
+requested_of_verdict log old_kernel list expected require known =
+    requested_by (WholeVerdictOf (BytesOf log)) old_kernel list expected require known
 
 abbrev pub requested_of_positions : List ℕ → List ℕ → List ℕ → List ℕ → Requested
-requested_of_positions log list expected require = requested_by (PositionsOf (BytesOf log)) list expected require []
+requested_of_positions log list expected require = requested_by (PositionsOf (BytesOf log)) false list expected require []
 
 abbrev pub requested_of_list : List ℕ → List ℕ → List ℕ → List Where → Requested
-requested_of_list list expected require known = requested_by ListVerdictOf list expected require known
+requested_of_list list expected require known = requested_by ListVerdictOf false list expected require known
 
 -- The verdict on a list that grows.
-abbrev pub requested_of_more : List ℕ → List ℕ → List ℕ → List ℕ → List ℕ → List Where → Bool → Requested
-requested_of_more log state more expected require known prefix = requested_by (verdict_of log state prefix) more expected require known
+abbrev pub requested_of_more : List ℕ → Bool → List ℕ → List ℕ → List ℕ → List ℕ → List Where → Bool → Requested
+requested_of_more log old_kernel state more expected require known prefix =
+    requested_by (verdict_of log state prefix) old_kernel more expected require known
 
 -- By what a message is known to be signed: by the key and the signature, if both have bytes; else by the word of the caller, if he gives it; else
 -- by nothing. There is no such thing where one of both has bytes alone, or the caller gives his word beside them: so he asks for nothing.
@@ -113,6 +119,11 @@ nonce_by (Some nonce) (Some digits) = Misused
 abbrev pub nonce_in : List ℕ → List ℕ → Asked (List ℕ)
 nonce_in nonce digits = nonce_by (given_bytes nonce) (given_bytes digits)
 
+-- The bytes of a log that is replayed.
+abbrev pub replayed_bytes : Replayed → List ℕ
+replayed_bytes (logs.Given bytes) = bytes.now
+replayed_bytes (logs.Told bytes) = bytes.items
+
 -- The bytes of a nonce.
 abbrev pub nonce_bytes : Nonce → List ℕ
 nonce_bytes (Given bytes) = bytes.now
@@ -126,9 +137,9 @@ asked_with (Some signing) NotHexadecimal asks = NotHexadecimal
 asked_with (Some signing) (AsksFor nonce) asks = AsksFor (asks signing nonce)
 
 -- Whether a quote is of a log and a list, or of its confirmed prefix, from a checkpoint on, if there is one; if something is asked for.
-abbrev pub requested_of_attestation : List ℕ → List ℕ → List ℕ → List ℕ → List ℕ → List ℕ → List ℕ → List ℕ → List ℕ → List Where → Bool → Bool
+abbrev pub requested_of_attestation : List ℕ → Bool → List ℕ → List ℕ → List ℕ → List ℕ → List ℕ → List ℕ → List ℕ → List ℕ → List Where → Bool → Bool
     → Bool → Asked Requested
-requested_of_attestation log state more message key signature nonce nonce_hex require known allow_sha1 signature_checked prefix =
+requested_of_attestation log old_kernel state more message key signature nonce nonce_hex require known allow_sha1 signature_checked prefix =
     asked_with (signing_in key signature signature_checked) (nonce_in nonce nonce_hex) (λ signing nonce. Attests (record {
       log = BytesOf log;
       list = BytesOf more;
@@ -136,10 +147,12 @@ requested_of_attestation log state more message key signature nonce nonce_hex re
       nonce = nonce;
       required = require;
       takes_sha1 = allow_sha1;
+      old_kernel = old_kernel;
       signing = signing;
       expected = None;
       scope = scope_of prefix;
       resume = resume_of state;
+      saves = true;
       known = known;
     }))
 

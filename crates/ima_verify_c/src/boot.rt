@@ -3,21 +3,25 @@
 ghost use Rattle.std.specs.Prelude.{◌≡◌, ◌⊎◌, None, option_map, pos, IfErr, IfOk};
 ghost use Rattle.agent_inputs.specs.declared.fault.RunFault.TheVariants.{Memory};
 ghost use Rattle.agent_inputs.specs.Loading.{unknown};
+ghost use Rattle.agent_inputs.specs.Opening.{replayed};
 ghost use Rattle.cells.specs.declared.writer.Form.TheVariants.{Json};
-ghost use Rattle.confirming.specs.Boot.{places_of};
+ghost use Rattle.confirming.specs.Boot.{IsNoBoot, ShowsBoot, places_of};
 ghost use Rattle.confirming.specs.Matching.{AreNotMatched, confirmation_of};
+ghost use Rattle.judging.specs.Requests.{location_of};
 ghost use Rattle.ima_verify_c.specs.Answers.{Answers, GivesEvents, info_of};
 ghost use Rattle.ima_verify_c.specs.Boot.{AnswersTo, AreGivenPlaces, AreNoPlaces, GivesOutput, IsBootAnswer, IsMatching, IsMatchingAnswer, asked_of_boot, asked_of_matching, earlier_in};
 ghost use Rattle.ima_verify_c.specs.Requests.{form_of};
 
 use crate::evidence::{Evidence, confirming_in, earlier_in, some_confirming_in, with_nonce};
 use crate::nonce::nonce_in;
+use crate::replayed::replayed_in;
 use crate::replies::{MISUSED, answer_of_status, give_fault, give_lines, put};
 use crate::requests::form_of;
 use crate::text_info::TextInfo;
 use agent_inputs::RunFault;
 use agent_plans::Form;
 use confirming::{Confirming, boot_on, matching_in, read_matching, write_matching};
+use judging::Input;
 use line_chunks::{LineOffset, event_lines};
 use measured_data::Pcr;
 use rendering::{NoFiles, Output};
@@ -34,6 +38,8 @@ use std::alloc::Global;
 pub extern "C" fn ima_verify_raw_matching<'a>(
     alloc: Global,
     log: &'a [u8],
+    hcrtm: bool,
+    old_kernel: bool,
     by: u32,
     expected: &'a [u8],
     list: &'a [u8],
@@ -59,8 +65,9 @@ pub extern "C" fn ima_verify_raw_matching<'a>(
       nonce_hex = nonce_hex.now;
       require = require.now;
       allow_sha1 = allow_sha1;
+      old_kernel = old_kernel;
       signature_checked = signature_checked;
-    })) Json (IsMatchingAnswer log.now) result info.new out.old out.new }
+    })) Json (IsMatchingAnswer (replayed hcrtm log.now)) result info.new out.old out.new }
 {
     let given = Evidence {
         by,
@@ -73,6 +80,7 @@ pub extern "C" fn ima_verify_raw_matching<'a>(
         nonce_hex,
         require,
         allow_sha1,
+        old_kernel,
         signature_checked,
     };
     let Some(confirming) = some_confirming_in(given) else {
@@ -83,7 +91,7 @@ pub extern "C" fn ima_verify_raw_matching<'a>(
         Ok(None) => return give_misuse(info),
         Err(fault) => return give_fault(alloc, Form::Json, &fault, out, info),
     };
-    let made = matching_on(alloc, log, with_nonce(confirming, nonce.bytes()));
+    let made = matching_on(alloc, log, hcrtm, with_nonce(confirming, nonce.bytes()));
     give_output(alloc, Form::Json, made, out, info)
 }
 
@@ -96,6 +104,8 @@ pub extern "C" fn ima_verify_raw_matching<'a>(
 pub extern "C" fn ima_verify_raw_boot<'a>(
     alloc: Global,
     log: &'a [u8],
+    hcrtm: bool,
+    old_kernel: bool,
     before: &'a [u8],
     compares: bool,
     by: u32,
@@ -124,8 +134,9 @@ pub extern "C" fn ima_verify_raw_boot<'a>(
       nonce_hex = nonce_hex.now;
       require = require.now;
       allow_sha1 = allow_sha1;
+      old_kernel = old_kernel;
       signature_checked = signature_checked;
-    })) (form_of json) (IsBootAnswer (form_of json) (earlier_in compares before.now) log.now)
+    })) (form_of json) (IsBootAnswer (form_of json) (earlier_in compares before.now) (replayed hcrtm log.now))
         result info.new out.old out.new }
 {
     let given = Evidence {
@@ -139,6 +150,7 @@ pub extern "C" fn ima_verify_raw_boot<'a>(
         nonce_hex,
         require,
         allow_sha1,
+        old_kernel,
         signature_checked,
     };
     let Some(confirming) = confirming_in(given) else {
@@ -152,16 +164,40 @@ pub extern "C" fn ima_verify_raw_boot<'a>(
     };
     let confirming = with_nonce(confirming, nonce.bytes());
     let earlier = earlier_in(compares, before);
-    let made = boot_on(alloc, &mut NoFiles, log, confirming, earlier, form);
+    let made = booted(alloc, log, hcrtm, confirming, earlier, form);
     give_output(alloc, form, made, out, info)
 }
 
-// The text of the PCRs that match after this log.
-fn matching_on(alloc: Global, log: &[u8], confirming: Confirming<'_>) -> Result<Output, RunFault>
-    ensures matching { IfOk result (λ output. IsMatching log.now (confirmation_of confirming.entry) output.text.items output.status) }
-    ensures fault { IfErr result (λ fault. AreNotMatched unknown (confirmation_of confirming.entry) log.now fault ⊎ (fault ≡ Memory)) }
+// What was booted, where this log is replayed.
+fn booted(
+    alloc: Global,
+    log: &[u8],
+    hcrtm: bool,
+    confirming: Confirming<'_>,
+    earlier: Option<Input<'_>>,
+    form: Form,
+) -> Result<Output, RunFault>
+    ensures shown { IfOk result (λ output. ShowsBoot unknown form (confirmation_of confirming.entry) (option_map location_of earlier.entry)
+        (replayed hcrtm log.now) output.text.items output.status) }
+    ensures fault { IfErr result (λ fault. IsNoBoot unknown (confirmation_of confirming.entry) (option_map location_of earlier.entry)
+        (replayed hcrtm log.now) fault ⊎ (fault ≡ Memory)) }
 {
-    let matched = matching_in(alloc, &mut NoFiles, log, confirming)?;
+    let log = replayed_in(alloc, log, hcrtm)?;
+    boot_on(alloc, &mut NoFiles, log.bytes(), confirming, earlier, form)
+}
+
+// The text of the PCRs that match, where this log is replayed.
+fn matching_on(
+    alloc: Global,
+    log: &[u8],
+    hcrtm: bool,
+    confirming: Confirming<'_>,
+) -> Result<Output, RunFault>
+    ensures matching { IfOk result (λ output. IsMatching (replayed hcrtm log.now) (confirmation_of confirming.entry) output.text.items output.status) }
+    ensures fault { IfErr result (λ fault. AreNotMatched unknown (confirmation_of confirming.entry) (replayed hcrtm log.now) fault ⊎ (fault ≡ Memory)) }
+{
+    let log = replayed_in(alloc, log, hcrtm)?;
+    let matched = matching_in(alloc, &mut NoFiles, log.bytes(), confirming)?;
     let text = write_matching(alloc, places_of(&matched.places))?;
     Ok(Output {
         text,

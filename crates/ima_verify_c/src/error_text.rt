@@ -63,6 +63,8 @@ fn kind_of(number: u32) -> Option<FaultKind>
         9 => Some(FaultKind::Key),
         10 => Some(FaultKind::Known),
         11 => Some(FaultKind::Signature),
+        12 => Some(FaultKind::ListText),
+        13 => Some(FaultKind::LogForm),
         _ => None,
     }
 }

@@ -33,6 +33,8 @@ pub(crate) struct Evidence<'a> {
     pub require: &'a [u8],
     /// Whether a PCR may be required in the SHA-1 bank alone.
     pub allow_sha1: bool,
+    /// Whether a boot aggregate as older kernels make it is taken.
+    pub old_kernel: bool,
     /// Whether the caller has verified the signature.
     pub signature_checked: bool,
 }
@@ -83,6 +85,7 @@ fn has_no_quote(given: Evidence<'_>) -> bool
         && given.nonce_hex.is_empty()
         && given.require.is_empty()
         && !given.allow_sha1
+        && !given.old_kernel
         && !given.signature_checked
 }
 
@@ -107,10 +110,12 @@ fn quote_in<'a>(given: Evidence<'a>, signing: Signing<'a>) -> AttestRequest<'a>
         nonce: b"",
         required: given.require,
         takes_sha1: given.allow_sha1,
+        old_kernel: given.old_kernel,
         signing,
         expected: None,
         scope: Scope::Whole,
         resume: None,
+        saves: false,
         known: &[],
     }
 }

@@ -12,15 +12,15 @@ ghost use Rattle.ima_verify_c.specs.Requests.{IsOfSomeList, requested_of_list, r
 /// A report by expected PCRs that a call gives with 0 compared some PCR: by `ima_verify_raw_verdict`, by `ima_verify_raw_replay`, and by
 /// `ima_verify_raw_more`, if the checkpoint in its state is that of some list.
 pub fn match_compares_some()
-    ensures verdict { (log list expected require : List ℕ) (known : List Where) (form : Form) (text : List ℕ) (fault : Option RunFault)
-        (state : List ℕ) (summary : Summary) → IsAnswerAndNext (requested_of_verdict log list expected require known) form text 0 fault state summary
-        → 0 < summary.compared }
+    ensures verdict { (log : List ℕ) (old_kernel : Bool) (list expected require : List ℕ) (known : List Where) (form : Form) (text : List ℕ)
+        (fault : Option RunFault) (state : List ℕ) (summary : Summary)
+        → IsAnswerAndNext (requested_of_verdict log old_kernel list expected require known) form text 0 fault state summary → 0 < summary.compared }
     ensures list { (list expected require : List ℕ) (known : List Where) (form : Form) (text : List ℕ) (fault : Option RunFault) (state : List ℕ)
         (summary : Summary) → IsAnswerAndNext (requested_of_list list expected require known) form text 0 fault state summary
         → 0 < summary.compared }
-    ensures more { (log before more expected require : List ℕ) (known : List Where) (prefix : Bool) (form : Form) (text : List ℕ)
-        (fault : Option RunFault) (state : List ℕ) (summary : Summary) → IsOfSomeList (resume_of before)
-        → IsAnswerAndNext (requested_of_more log before more expected require known prefix) form text 0 fault state summary
+    ensures more { (log : List ℕ) (old_kernel : Bool) (before more expected require : List ℕ) (known : List Where) (prefix : Bool) (form : Form)
+        (text : List ℕ) (fault : Option RunFault) (state : List ℕ) (summary : Summary) → IsOfSomeList (resume_of before)
+        → IsAnswerAndNext (requested_of_more log old_kernel before more expected require known prefix) form text 0 fault state summary
         → 0 < summary.compared }
 {}
 

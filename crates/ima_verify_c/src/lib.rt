@@ -6,6 +6,10 @@
 //! are more; and 6 if the position is none, or nothing can be asked for so. In any case `info` has the size of the text, and the error if the text is
 //! the line of one. With `json` the text is that of the command with `--json`.
 //!
+//! With `hcrtm` an event of a log of type EV_EFI_HCRTM_EVENT in PCR 0 tells that PCR 0 began at 4, if no event tells a locality (TPM 2.0 Library,
+//! part 1, 34.3). With `old_kernel` a boot aggregate over PCRs 0 to 7 is taken, as kernels before 5.8 make it: beside PCRs that `require` names, and by
+//! a quote; beside the word `none` it counts for nothing.
+//!
 //! `require` names PCRs that must be among the expected ones, such as `sha256:0-10`; the word `none` names none, but where nothing is compared the
 //! verdict is `differ`. `known` lists known files, as a FILE of `--known`; a caller joins the texts of several, each of whole lines. It counts if
 //! `checks_known`, even without bytes: then no file is known. It is given only where `require` names PCRs. `numbers` are what the text says of the
@@ -13,17 +17,20 @@
 #![tactic(auto)]
 
 mod boot;
+mod convert;
 pub mod error_text;
 mod evidence;
 pub mod laws;
 mod nonce;
 mod numbers;
+mod replayed;
 mod replies;
 mod requests;
 mod text_info;
 
-ghost use Rattle.std.specs.Prelude.{◌≡◌};
-ghost use Rattle.judging.specs.Requests.{ExpectedOf};
+ghost use Rattle.std.specs.Prelude.{◌≡◌, ◌&&◌, not};
+ghost use Rattle.agent_inputs.specs.Opening.{replayed};
+ghost use Rattle.judging.specs.Requests.{Attests, ExpectedOf, attested_of};
 ghost use Rattle.judging.specs.Inputs.{BytesOf};
 ghost use Rattle.ima_verify_c.specs.Answers.{Answers, AnswersAsked, AnswersCounted, AnswersMore, GivesEntries, IsAnswerAndNext, IsAnswerTo, IsAnswerWith, interface_version};
 ghost use Rattle.ima_verify_c.specs.Boot.{GivesEventsBy};
@@ -31,15 +38,18 @@ ghost use Rattle.ima_verify_c.specs.Requests.{requested_of_attestation, requeste
 
 use crate::boot::{give_events, give_misuse, given_places};
 use crate::nonce::nonce_in;
+use crate::replayed::replayed_in;
 use crate::replies::{
-    give, give_both, give_counted, give_fault, give_lines, give_no_report, give_nothing,
+    give, give_both, give_counted, give_fault, give_lines, give_no_report, give_no_verdict,
+    give_nothing,
 };
 use crate::requests::{
-    form_of, given_bytes, key_in, known_in, registers_on, requested_by, resume_of, scope_of,
-    signing_in, verdict_of,
+    form_of, given_bytes, key_in, known_in, looks_for_hcrtm, registers_on, requested_by, resume_of,
+    scope_of, signing_in, verdict_of,
 };
 use agent_plans::Form;
 pub use boot::{ima_verify_raw_boot, ima_verify_raw_matching};
+pub use convert::ima_verify_raw_convert;
 use judging::{AttestRequest, Input, ReportKind, Request};
 use line_chunks::{LineOffset, entry_lines};
 use std::alloc::Global;
@@ -59,6 +69,8 @@ pub extern "C" fn ima_verify_version() -> u32
 pub extern "C" fn ima_verify_raw_verdict<'a>(
     alloc: Global,
     log: &'a [u8],
+    hcrtm: bool,
+    old_kernel: bool,
     list: &'a [u8],
     expected: &'a [u8],
     require: &'a [u8],
@@ -70,14 +82,20 @@ pub extern "C" fn ima_verify_raw_verdict<'a>(
     info: &mut TextInfo,
 ) -> i32
     ensures { AnswersCounted (IsAnswerWith
-        (requested_of_verdict log.now list.now expected.now require.now (known_in checks_known known.now)) (form_of json)) result
-        info.new out.old out.new numbers.old numbers.new }
+        (requested_of_verdict (replayed hcrtm log.now) old_kernel list.now expected.now require.now (known_in checks_known known.now)) (form_of json))
+        result info.new out.old out.new numbers.old numbers.new }
 {
-    let verdict = verdict_of(log, b"", false);
+    let form = form_of(json);
+    let log = match replayed_in(alloc, log, hcrtm) {
+        Ok(log) => log,
+        Err(fault) => return give_no_verdict(alloc, form, &fault, numbers, out, info),
+    };
+    let log = Input::Bytes(log.bytes());
+    let verdict = ReportKind::WholeVerdict { log };
     let texts = [Input::Bytes(known)];
     let known = known_in(checks_known, &texts);
-    let request = requested_by(verdict, list, expected, require, known);
-    give_counted(alloc, request, form_of(json), numbers, out, info)
+    let request = requested_by(verdict, old_kernel, list, expected, require, known);
+    give_counted(alloc, request, form, numbers, out, info)
 }
 
 /// Where expected registers first have their values in a firmware event log and a measurement list, as `locate` writes it: 0 if some
@@ -86,6 +104,7 @@ pub extern "C" fn ima_verify_raw_verdict<'a>(
 pub extern "C" fn ima_verify_raw_locate<'a>(
     alloc: Global,
     log: &'a [u8],
+    hcrtm: bool,
     list: &'a [u8],
     expected: &'a [u8],
     require: &'a [u8],
@@ -93,12 +112,19 @@ pub extern "C" fn ima_verify_raw_locate<'a>(
     out: &mut [u8],
     info: &mut TextInfo,
 ) -> i32
-    ensures { Answers (IsAnswerTo (requested_of_positions log.now list.now expected.now require.now) (form_of json)) result info.new out.old out.new }
+    ensures { Answers (IsAnswerTo (requested_of_positions (replayed hcrtm log.now) list.now expected.now require.now) (form_of json)) result info.new
+        out.old out.new }
 {
-    let log = Input::Bytes(log);
-    let positions = ReportKind::Positions { log };
-    let request = requested_by(positions, list, expected, require, &[]);
-    give(alloc, request, form_of(json), out, info)
+    let form = form_of(json);
+    let log = match replayed_in(alloc, log, hcrtm) {
+        Ok(log) => log,
+        Err(fault) => return give_fault(alloc, form, &fault, out, info),
+    };
+    let positions = ReportKind::Positions {
+        log: Input::Bytes(log.bytes()),
+    };
+    let request = requested_by(positions, false, list, expected, require, &[]);
+    give(alloc, request, form, out, info)
 }
 
 /// The verdict on a measurement list without a log, as `replay` writes it with expected registers: 0 if it is `match`, 1 if it is `differ`.
@@ -122,7 +148,7 @@ pub extern "C" fn ima_verify_raw_replay<'a>(
     let alone = ReportKind::ListVerdict;
     let texts = [Input::Bytes(known)];
     let known = known_in(checks_known, &texts);
-    let request = requested_by(alone, list, expected, require, known);
+    let request = requested_by(alone, false, list, expected, require, known);
     give_counted(alloc, request, form_of(json), numbers, out, info)
 }
 
@@ -134,6 +160,8 @@ pub extern "C" fn ima_verify_raw_replay<'a>(
 pub extern "C" fn ima_verify_raw_more<'a>(
     alloc: Global,
     log: &'a [u8],
+    hcrtm: bool,
+    old_kernel: bool,
     state: &'a [u8],
     more: &'a [u8],
     expected: &'a [u8],
@@ -149,23 +177,19 @@ pub extern "C" fn ima_verify_raw_more<'a>(
     info: &mut TextInfo,
 ) -> i32
     ensures { AnswersMore (IsAnswerAndNext
-        (requested_of_more log.now state.now more.now expected.now require.now (known_in checks_known known.now) prefix) (form_of json)) result
-        info.new out.old out.new numbers.old numbers.new next_size.new next.old next.new }
+        (requested_of_more (replayed hcrtm log.now) old_kernel state.now more.now expected.now require.now (known_in checks_known known.now) prefix)
+        (form_of json)) result info.new out.old out.new numbers.old numbers.new next_size.new next.old next.new }
 {
-    let verdict = verdict_of(log, state, prefix);
+    let form = form_of(json);
+    let log = match replayed_in(alloc, log, hcrtm) {
+        Ok(log) => log,
+        Err(fault) => return give_no_report(alloc, form, &fault, numbers, next_size, out, info),
+    };
+    let verdict = verdict_of(log.bytes(), state, prefix);
     let texts = [Input::Bytes(known)];
     let known = known_in(checks_known, &texts);
-    let request = requested_by(verdict, more, expected, require, known);
-    give_both(
-        alloc,
-        request,
-        form_of(json),
-        numbers,
-        next,
-        next_size,
-        out,
-        info,
-    )
+    let request = requested_by(verdict, old_kernel, more, expected, require, known);
+    give_both(alloc, request, form, numbers, next, next_size, out, info)
 }
 
 /// Whether the message of a quote is of a firmware event log and a measurement list that grows: 0 if they are attested by it, else 1. `state`,
@@ -182,6 +206,8 @@ pub extern "C" fn ima_verify_raw_more<'a>(
 pub extern "C" fn ima_verify_raw_attest<'a>(
     alloc: Global,
     log: &'a [u8],
+    hcrtm: bool,
+    old_kernel: bool,
     state: &'a [u8],
     more: &'a [u8],
     message: &'a [u8],
@@ -202,9 +228,9 @@ pub extern "C" fn ima_verify_raw_attest<'a>(
     out: &mut [u8],
     info: &mut TextInfo,
 ) -> i32
-    ensures { AnswersAsked (requested_of_attestation log.now state.now more.now message.now key.now signature.now nonce.now nonce_hex.now require.now
-        (known_in checks_known known.now) allow_sha1 signature_checked prefix) (form_of json) result info.new out.old out.new numbers.old numbers.new
-        next_size.new next.old next.new }
+    ensures { AnswersAsked (requested_of_attestation (replayed hcrtm log.now) old_kernel state.now more.now message.now key.now signature.now
+        nonce.now nonce_hex.now require.now (known_in checks_known known.now) allow_sha1 signature_checked prefix) (form_of json) result info.new out.old
+        out.new numbers.old numbers.new next_size.new next.old next.new }
 {
     let Some(signing) = signing_in(key, signature, signature_checked) else {
         return give_nothing(next_size, info);
@@ -216,18 +242,49 @@ pub extern "C" fn ima_verify_raw_attest<'a>(
         Err(fault) => return give_no_report(alloc, form, &fault, numbers, next_size, out, info),
     };
     let texts = [Input::Bytes(known)];
-    let request = Request::Attestation(AttestRequest {
-        log: Input::Bytes(log),
+    let asked = AttestRequest {
+        log: Input::Bytes(b""),
         list: Input::Bytes(more),
         message: Input::Bytes(message),
         nonce: nonce.bytes(),
         required: require,
         known: known_in(checks_known, &texts),
         takes_sha1: allow_sha1,
+        old_kernel,
         signing,
         expected: None,
         scope: scope_of(prefix),
         resume: resume_of(state),
+        saves: true,
+    };
+    give_attested(
+        alloc, log, hcrtm, asked, form, numbers, next, next_size, out, info,
+    )
+}
+
+// Gives the answer to what is asked of a quote, where this log is replayed.
+fn give_attested<'a>(
+    alloc: Global,
+    log: &'a [u8],
+    hcrtm: bool,
+    asked: AttestRequest<'a>,
+    form: Form,
+    numbers: &mut [u64],
+    next: &mut [u8],
+    next_size: &mut usize,
+    out: &mut [u8],
+    info: &mut TextInfo,
+) -> i32
+    ensures { AnswersMore (IsAnswerAndNext (Attests (record (attested_of asked.entry) { log = BytesOf (replayed hcrtm log.now) })) form) result info.new
+        out.old out.new numbers.old numbers.new next_size.new next.old next.new }
+{
+    let log = match replayed_in(alloc, log, hcrtm) {
+        Ok(log) => log,
+        Err(fault) => return give_no_report(alloc, form, &fault, numbers, next_size, out, info),
+    };
+    let request = Request::Attestation(AttestRequest {
+        log: Input::Bytes(log.bytes()),
+        ..asked
     });
     give_both(alloc, request, form, numbers, next, next_size, out, info)
 }
@@ -259,18 +316,25 @@ pub extern "C" fn ima_verify_raw_registers(
     alloc: Global,
     bytes: &[u8],
     of_list: bool,
+    hcrtm: bool,
     json: bool,
     out: &mut [u8],
     info: &mut TextInfo,
 ) -> i32
-    ensures { Answers (IsAnswerTo (requested_of_registers of_list bytes.now) (form_of json)) result info.new out.old out.new }
+    ensures { Answers (IsAnswerTo (requested_of_registers of_list (replayed (hcrtm && not of_list) bytes.now)) (form_of json)) result info.new out.old
+        out.new }
 {
-    let request = registers_on(of_list, bytes);
-    give(alloc, request, form_of(json), out, info)
+    let form = form_of(json);
+    let bytes = match replayed_in(alloc, bytes, looks_for_hcrtm(of_list, hcrtm)) {
+        Ok(bytes) => bytes,
+        Err(fault) => return give_fault(alloc, form, &fault, out, info),
+    };
+    let request = registers_on(of_list, bytes.bytes());
+    give(alloc, request, form, out, info)
 }
 
-/// What the area says of the key of a TPM whose public area (TPM2B_PUBLIC) this is, as `key` writes it, if the TPM signs with it only what it made; with
-/// `endorsement`, if the TPM only decrypts with it, what is meant for it.
+/// What the area says of the key of a TPM whose public area this is (TPM2B_PUBLIC or TPMT_PUBLIC), as `key` writes it, if the TPM signs with it only what
+/// it made; with `endorsement`, if the TPM only decrypts with it, what is meant for it.
 #[unsafe(no_mangle)]
 pub extern "C" fn ima_verify_raw_key(
     alloc: Global,

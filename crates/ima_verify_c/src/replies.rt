@@ -2,8 +2,8 @@
 
 ghost use Rattle.std.specs.Prelude.{◌≡◌, ◌≤◌, ◌⊎◌, ◌&&◌, ℕ, List, None, length, nat_le, option_map, pos, IfOk, IfSome};
 ghost use Rattle.agent_inputs.specs.declared.fault.RunFault.TheVariants.{Memory};
-ghost use Rattle.judging.specs.Requests.{requested_of};
-ghost use Rattle.ima_verify_c.specs.Answers.{Answers, AnswersCounted, AnswersMore, AreGiven, answer_of_status, fault_answer, GivesFound, GivesPiece, IsAnswerAndNext, IsAnswerTo, IsAnswerWith, IsGiven, IsLineOf, IsNoReport, IsRefusal, info_of};
+ghost use Rattle.judging.specs.Requests.{Requested, requested_of};
+ghost use Rattle.ima_verify_c.specs.Answers.{Answers, AnswersCounted, AnswersMore, AreGiven, answer_of_status, fault_answer, GivesFound, HasNoAnswerOn, GivesPiece, IsAnswerAndNext, IsAnswerTo, IsAnswerWith, IsGiven, IsLineOf, IsNoReport, IsRefusal, info_of};
 ghost use Rattle.ima_verify_c.specs.Numbers.{numbers_if};
 
 use crate::numbers::fill_if;
@@ -82,11 +82,24 @@ pub(crate) fn give_counted(
 {
     match output_on(alloc, request, form) {
         Ok(given) => put_counted(&given, numbers, out, info),
-        Err(fault) => {
-            fill_if(false, Summary::none(), numbers);
-            give_fault(alloc, form, &fault, out, info)
-        }
+        Err(fault) => give_no_verdict(alloc, form, &fault, numbers, out, info),
     }
+}
+
+/// Gives the line of a fault, and no verdict's numbers.
+pub(crate) fn give_no_verdict(
+    alloc: Global,
+    form: Form,
+    fault: &RunFault,
+    numbers: &mut [u64],
+    out: &mut [u8],
+    info: &mut TextInfo,
+) -> i32
+    ensures { (request : Requested) → HasNoAnswerOn request fault.now → AnswersCounted (IsAnswerWith request form) result info.new out.old out.new
+        numbers.old numbers.new }
+{
+    fill_if(false, Summary::none(), numbers);
+    give_fault(alloc, form, fault, out, info)
 }
 
 /// Gives the answer, its numbers, and the text of the checkpoint of what it is on; or the line of a fault, no verdict's numbers, and no checkpoint.

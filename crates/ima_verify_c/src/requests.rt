@@ -1,6 +1,6 @@
 //! What a call with these bytes asks for.
 
-ghost use Rattle.std.specs.Prelude.{◌≡◌, [], if◌then◌else◌, map, option_map};
+ghost use Rattle.std.specs.Prelude.{◌≡◌, ◌&&◌, not, [], if◌then◌else◌, map, option_map};
 ghost use Rattle.judging.specs.Requests.{requested_of, judgement_of, location_of, requires_of, signing_of};
 ghost use Rattle.ima_verify_c.specs.Requests.{requested_by, requested_of_key, requested_of_registers, form_of, given_bytes, purpose_of, required_by, resume_of, scope_of, signing_in, verdict_of};
 
@@ -77,15 +77,16 @@ pub(crate) fn known_in<'a>(given: bool, texts: &'a [Input<'a>]) -> &'a [Input<'a
     if given { texts } else { &[] }
 }
 
-/// What a list is worth against expected PCRs, with these texts of known files.
+/// What a list is worth against expected PCRs, with these texts of known files; whether an older kernel's boot aggregate is taken.
 pub(crate) fn requested_by<'a>(
     wanted: ReportKind<'a>,
+    old_kernel: bool,
     list: &'a [u8],
     expected: &'a [u8],
     require: &'a [u8],
     known: &'a [Input<'a>],
 ) -> Request<'a>
-    ensures { requested_of result ≡ requested_by (judgement_of wanted.entry) list.now expected.now require.now
+    ensures { requested_of result ≡ requested_by (judgement_of wanted.entry) old_kernel list.now expected.now require.now
         (map location_of known.now) }
 {
     Request::Comparison(Comparison {
@@ -93,6 +94,7 @@ pub(crate) fn requested_by<'a>(
         list: Input::Bytes(list),
         expected: Input::Bytes(expected),
         required: required_by(require),
+        old_kernel,
         known,
     })
 }
@@ -106,6 +108,13 @@ fn required_by(require: &[u8]) -> Required<'_>
     } else {
         Required::These(require)
     }
+}
+
+/// Whether the event of an H-CRTM is looked for, which no list has.
+pub(crate) fn looks_for_hcrtm(of_list: bool, hcrtm: bool) -> bool
+    ensures { result ≡ (hcrtm && not of_list) }
+{
+    hcrtm && !of_list
 }
 
 /// The registers after a list alone, or after a log.

@@ -45,6 +45,8 @@ impl TextInfo {
             FaultKind::Key => 9,
             FaultKind::Known => 10,
             FaultKind::Signature => 11,
+            FaultKind::ListText => 12,
+            FaultKind::LogForm => 13,
             _ => return TextInfo::with(size, 0, None, None),
         };
         TextInfo::with(size, kind, head.number, head.place)

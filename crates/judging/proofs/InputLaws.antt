@@ -15,8 +15,9 @@ use Rattle.ima_list.proofs.PieceLaws.{reading_to_the_end}
 use Rattle.boot_verdict.specs.declared.report.Report.{Report}
 use Rattle.boot_verdict.specs.declared.verifier.VerifyFault.{VerifyFault}
 use Rattle.boot_verdict.specs.declared.verifier.VerifyFault.TheVariants as verdicts
+use Rattle.boot_verdict.specs.declared.aggregate_rule.AggregateRule.{AggregateRule}
 use Rattle.boot_verdict.specs.declared.checkpoint.Checkpoint.{Checkpoint}
-use Rattle.boot_verdict.specs.Names.{CameFrom, CameWhole, FailsFor, IsListFaultAfter, IsMoreFault, IsVerdict, IsVerifyFaultFrom, ReadsAsLog, Verdict, most_after, verdict_of, verdict_on}
+use Rattle.boot_verdict.specs.Names.{CameFrom, CameWhole, FailsFor, IsListFaultAfter, IsMoreFault, IsVerdictUnder, IsVerifyFaultFrom, ReadsAsLog, Verdict, most_after, verdict_of, verdict_under}
 use Rattle.boot_verdict.proofs.ReplayLaws.{one_list}
 use Rattle.boot_verdict.specs.declared.report.Unconfirmed.{Unconfirmed}
 use Rattle.boot_verdict.specs.declared.report.Unconfirmed.TheVariants as unconfirmed
@@ -77,15 +78,15 @@ goes_on taken came later entries rest begins = record {
 }
 
 -- The verdict on a log and the spelling of entries is that on what they read as.
-verdict_here : {log list rest : List ℕ} {prefix : List ListEntry} {table : List DeclaredAlgorithm} {events : List LogEvent} (expected : List Expected)
-    (verdict : Verdict) → IsLog log table events → BeginsWith list prefix rest → IsVerdict log (list_spelling prefix) expected verdict
-    → verdict ≡ verdict_on (algs_in table) events prefix expected
-verdict_here {log} {list} {rest} {prefix} {table} {events} expected verdict log_is begins is =
+verdict_here : {rule : AggregateRule} {log list rest : List ℕ} {prefix : List ListEntry} {table : List DeclaredAlgorithm} {events : List LogEvent} (expected : List Expected)
+    (verdict : Verdict) → IsLog log table events → BeginsWith list prefix rest → IsVerdictUnder rule log (list_spelling prefix) expected verdict
+    → verdict ≡ verdict_under rule (algs_in table) events prefix expected
+verdict_here {rule} {log} {list} {rest} {prefix} {table} {events} expected verdict log_is begins is =
     let same = one_reading log is.table table is.events events is.log_is log_is in
     let listed : IsReading (list_spelling prefix) (Ok prefix) =
     reading_to_the_end (list_spelling prefix) prefix (record { are = begins.are; parts = sym (append-nil (list_spelling prefix)) }) in
     let entries : is.entries ≡ prefix = one_list is.list_is listed in
-    is.verdict_is ∙ (λ i. verdict_on (algs_in (same.0 i)) (same.1 i) (entries i) expected)
+    is.verdict_is ∙ (λ i. verdict_under rule (algs_in (same.0 i)) (same.1 i) (entries i) expected)
 
 -- The checkpoint of the spelling of a list's first entries counts them.
 spelled_count : {log list rest : List ℕ} {prefix : List ListEntry} {next : Checkpoint} → BeginsWith list prefix rest
@@ -211,7 +212,7 @@ module _ {inputs : Inputs} {list : Where} {old new : SourceState} (gives : Gives
         → (seeks_prefix scope evidence ≡ true → (log taken : List ℕ) → HasTaken log taken before
         → TakesUnconfirmed log taken old.remaining new.remaining (most_after before.checkpoint (limit_of list)) (goal_in evidence)
         before.checkpoint.entries after)
-        → ((log all : List ℕ) → HasTaken log all after → IsVerdict log all evidence.expected (verdict_of report))
+        → ((log all : List ℕ) → HasTaken log all after → IsVerdictUnder evidence.rule log all evidence.expected (verdict_of report))
         → IsVerdictOn inputs scope list evidence Tells (judged.Whole report) after.checkpoint
     unfolding next_of
     whole_found Tells after report room takes none verdict = (
@@ -236,7 +237,7 @@ module _ {inputs : Inputs} {list : Where} {old new : SourceState} (gives : Gives
         → seeks_prefix scope evidence ≡ true
         → ((log taken : List ℕ) → HasTaken log taken before → (prefix : IsPrefixTaken log taken old.remaining new.remaining
         (most_after before.checkpoint (limit_of list)) (goal_in evidence) before.checkpoint.entries after confirmed) × Tells prefix.prefix)
-        → ((log all : List ℕ) → HasTaken log all after → IsVerdict log all evidence.expected (verdict_of report))
+        → ((log all : List ℕ) → HasTaken log all after → IsVerdictUnder evidence.rule log all evidence.expected (verdict_of report))
         → IsVerdictOn inputs scope list evidence Tells
         (judged.Prefix (record { report = report; entries = confirmed.entries; unconfirmed = confirmed.unconfirmed })) after.checkpoint
     prefix_found Tells after report confirmed room sought prefixes verdict = (

@@ -5,3 +5,6 @@ pub mod SessionLaws
 pub mod RegisterLaws
 pub mod LogLaws
 pub mod TextLaws
+pub mod OpeningLaws
+pub mod RequestLaws
+pub mod WholeLaws

@@ -10,11 +10,13 @@ use Rattle.pcr_values.specs.Names.{BeginsWithBankRange, BeginsWithRegister, HasF
 use Rattle.boot_log.specs.declared.header.DeclaredAlgorithm.{DeclaredAlgorithm}
 use Rattle.boot_log.specs.Names.{IsFirmware, IsLog, LogEvent, algs_in, startup_locality}
 use Rattle.ima_list.specs.Names.{AreGenuine, BeginsWith, IsReading, IsReplayed, ListEntry, list_fault_entry, list_spelling}
+use Rattle.boot_verdict.specs.declared.aggregate_rule.AggregateRule.{AggregateRule}
 use Rattle.boot_verdict.specs.declared.checkpoint.Checkpoint.{Checkpoint}
 use Rattle.boot_verdict.specs.declared.verifier.VerifyFault.{VerifyFault}
 use Rattle.boot_verdict.specs.declared.verifier.VerifyFault.TheVariants as verdicts
-use Rattle.boot_verdict.specs.Names.{AreLocated, AreTracked, IsCheckpoint, IsForged, IsListStart, IsListVerdict, IsRequirementText, IsSound, IsVerdict, ReadsAsLog, Verdict, all_found, is_complete, list_matches, list_verdict_of, matches, most_after, required_found, required_list_matches, required_matches, verdict_of, verdict_on}
+use Rattle.boot_verdict.specs.Names.{AreLocated, AreTracked, IsCheckpoint, IsForged, IsListStart, IsListVerdict, IsRequirementText, IsSound, IsVerdictUnder, ReadsAsLog, Verdict, all_found, is_complete, list_matches, list_verdict_of, matches, most_after, pcr_after_log_and_list, required_found, required_list_matches, required_matches, verdict_of, verdict_under, wide_rule}
 use Rattle.boot_verdict.specs.declared.report.PrefixReport.{PrefixReport}
+use Rattle.boot_verdict.specs.declared.report.Report.{Report}
 use Rattle.known_files.specs.declared.fault.KnownFault.{KnownFault}
 use Rattle.known_files.specs.declared.known.KnownFiles.{KnownFiles}
 use Rattle.known_files.specs.declared.listed.ListedFiles.{ListedFiles}
@@ -23,7 +25,7 @@ use Rattle.known_files.specs.declared.unknown.UnknownEntries.{UnknownEntries}
 use Rattle.known_files.specs.Known.{HoldsAll, Knows}
 use Rattle.known_files.specs.Listing.{BeginsWithGood, HasFaultOfFirst, IsGoodText}
 use Rattle.known_files.specs.Unknown.{AreUnknown, IsLookedAfter, has_no_unknown}
-use Rattle.tpm_quotes.specs.Quoting.{confirms}
+use Rattle.tpm_quotes.specs.Quoting.{Values, confirms}
 use Rattle.tpm_quotes.specs.Spelling.{IsQuote, TpmQuote, quote_of}
 use Rattle.attestations.specs.declared.expected.ExpectedValues.{ExpectedValues}
 use Rattle.attestations.specs.declared.expected.ExpectedValues.TheVariants.{NotGiven}
@@ -49,7 +51,7 @@ use Rattle.growing_lists.specs.declared.session.Session.{Session}
 use Rattle.growing_lists.specs.declared.saved_state.Boot.{Boot}
 use Rattle.growing_lists.specs.declared.saved_state.SavedState.{SavedState}
 use Rattle.growing_lists.specs.CheckpointData.{IsPossible, IsPossibleState, boot_of}
-use Rattle.growing_lists.specs.Goals.{GoalData, OfExpected, OfQuote}
+use Rattle.growing_lists.specs.Goals.{GoalData, OfExpected, OfQuote, SoughtData}
 use Rattle.growing_lists.specs.Prefixes.{AreUnconfirmed, IsConfirmed, IsWrongWith}
 use Rattle.growing_lists.specs.Sessions.{HasTaken, IsOfBoot}
 use Rattle.agent_plans.specs.declared.plan.Scope.{Scope}
@@ -64,7 +66,7 @@ use Rattle.judging.specs.declared.request.Answer.TheVariants as answers
 use Rattle.judging.specs.declared.request.Found.{Found}
 use Rattle.judging.specs.declared.request.ScopedReport.{ScopedReport}
 use Rattle.judging.specs.declared.request.ScopedReport.TheVariants as judged
-use Rattle.judging.specs.Requests.{AttestRequested, Attests, ByCaller, ByKey, NotChecked, Signing, Judgement, ListVerdictOf, PositionsOf, VerdictOf, Requested, Compared, Compares, ExpectedOf, KeyOf, ListRegistersOf, LogRegistersOf, Nothing, Requires, These, held_bytes, log_of, resume_of, takes_known}
+use Rattle.judging.specs.Requests.{AttestRequested, Attests, ByCaller, ByKey, NotChecked, Signing, Judgement, ListVerdictOf, PositionsOf, VerdictOf, WholeVerdictOf, Requested, Compared, Compares, ExpectedOf, KeyOf, ListRegistersOf, LogRegistersOf, Nothing, Requires, These, held_bytes, log_of, resume_of, rule_by, takes_known, verdict_asked}
 use Rattle.judging.specs.Inputs.{IsFaultAt, IsNotOpened, MayFail, OfInput, Where, held_in, limit_of, Holds, IsInputFault}
 use Rattle.pcr_banks.specs.declared.banks.Banks.{Banks}
 use Rattle.pcr_banks.specs.Names.{IsReset, value_at}
@@ -74,7 +76,8 @@ use Rattle.judging.specs.declared.answers.Evidence.{Evidence as HeldEvidence}
 
 -- What a list is judged with: the registers that are required, if a text spells some; the log, no bytes without one; the expected
 -- registers, beside a quote those that count; the quote, if there is one, what is known of its signature, and what came of the values of expected
--- registers beside it; the checkpoint that is gone on from, if there is one; and the files that are known, if files have to be known.
+-- registers beside it; by which rule the boot aggregate is taken; the checkpoint that is gone on from, if there is one; and the files that are known,
+-- if files have to be known.
 pub record Evidence : Type 0 where
   pub required : Option (List BankRange)
   pub log : List ℕ
@@ -82,16 +85,17 @@ pub record Evidence : Type 0 where
   pub quote : Option TpmQuote
   pub signature : SignatureState
   pub values : ExpectedValues
+  pub rule : AggregateRule
   pub checkpoint : Option Checkpoint
   pub known_files : Option KnownFiles
 
 -- What a prefix is confirmed by: the quote, if there is one; else the expected registers.
-abbrev pub goal_by : Option TpmQuote → List Expected → GoalData
-goal_by (Some quote) expected = OfQuote quote
-goal_by None expected = OfExpected expected
+abbrev pub sought_by : Option TpmQuote → List Expected → SoughtData
+sought_by (Some quote) expected = OfQuote quote
+sought_by None expected = OfExpected expected
 
 abbrev pub goal_in : Evidence → GoalData
-goal_in evidence = goal_by evidence.quote evidence.expected
+goal_in evidence = record { sought = sought_by evidence.quote evidence.expected; rule = evidence.rule }
 
 -- Whether one can be confirmed: there is a quote; or some register is expected, and all that is required.
 abbrev pub can_confirm : Option TpmQuote → Option (List BankRange) → List Expected → Bool
@@ -168,7 +172,7 @@ pub record IsPrefixOf (evidence : Evidence) (Tells : List ListEntry → Type 0) 
   pub log_is : IsLog evidence.log table events
   pub begins : BeginsWith list prefix rest
   pub confirmed : IsConfirmed (algs_in table) events (goal_in evidence) (entries_taken evidence.checkpoint) prefix
-  pub verdict_is : verdict_of report.report ≡ verdict_on (algs_in table) events prefix evidence.expected
+  pub verdict_is : verdict_of report.report ≡ verdict_under evidence.rule (algs_in table) events prefix evidence.expected
   pub next_is : IsNext evidence.log (list_spelling prefix) next
   pub tells : Tells prefix
 
@@ -187,7 +191,7 @@ abbrev pub IsVerdictOn : Inputs → Scope → Where → Evidence → (List ListE
 IsVerdictOn inputs scope list evidence Tells (judged.Whole report) next =
     IfSome evidence.checkpoint (IsOfBoot evidence.log)
     × OfMore inputs list evidence.checkpoint (λ taken more. (length more ≤ most_more evidence.checkpoint list)
-    × IsVerdict evidence.log (taken ++ more) evidence.expected (verdict_of report)
+    × IsVerdictUnder evidence.rule evidence.log (taken ++ more) evidence.expected (verdict_of report)
     × ((next_is : IsNext evidence.log (taken ++ more) next) × Tells next_is.checkpoint.entries))
     × (seeks_prefix scope evidence ≡ true → OfList inputs list evidence.checkpoint (HasNoPrefix evidence))
 IsVerdictOn inputs scope list evidence Tells (judged.Prefix report) next =
@@ -196,38 +200,53 @@ IsVerdictOn inputs scope list evidence Tells (judged.Prefix report) next =
     × OfList inputs list evidence.checkpoint (λ all. IsPrefixOf evidence Tells all report next)
     × OfList inputs list evidence.checkpoint (λ all. IsWrongWith all report.entries report.unconfirmed)
 
--- What a report by a quote says of what was judged, a whole list or its confirmed prefix, after which this is known: by the registers after it.
-abbrev pub told_by : TpmQuote → SignatureState → ExpectedValues → Checkpoint → ScopedReport → AttestVerdict
-told_by quote signature values next (judged.Whole report) = record {
+-- What a report by a quote says of what was judged, a whole list or its confirmed prefix, by these values of the registers after it.
+abbrev pub told_by : TpmQuote → SignatureState → ExpectedValues → Values → ScopedReport → AttestVerdict
+told_by quote signature values registers (judged.Whole report) = record {
   quoted = stated_by quote;
   verdict = verdict_of report;
   prefix = None;
   expected = values;
-  is_quoted = confirms quote (value_at next.after);
+  is_quoted = confirms quote registers;
   signature = signature;
 }
-told_by quote signature values next (judged.Prefix report) = record {
+told_by quote signature values registers (judged.Prefix report) = record {
   quoted = stated_by quote;
   verdict = verdict_of report.report;
   prefix = Some (record { entries = report.entries; unconfirmed = report.unconfirmed });
   expected = values;
-  is_quoted = confirms quote (value_at next.after);
+  is_quoted = confirms quote registers;
   signature = signature;
 }
 
--- The answer is the report on what was judged: where there is a quote, a report by the quote.
-abbrev pub IsAnswerOn : Option TpmQuote → SignatureState → ExpectedValues → ScopedReport → Checkpoint → Answer → Type 0
-IsAnswerOn None signature values (judged.Whole report) next answer = answer ≡ answers.Report report
-IsAnswerOn None signature values (judged.Prefix report) next answer = answer ≡ answers.Prefix report
-IsAnswerOn (Some quote) signature values on next answer =
-    (report : AttestReport) × (answer ≡ answers.Attestation report) × (attest_verdict_of report ≡ told_by quote signature values next on)
+-- The answer is the report on what was judged: where there is a quote, a report by the quote and by these values of the registers.
+abbrev pub IsAnswerOn : Option TpmQuote → SignatureState → ExpectedValues → ScopedReport → Values → Answer → Type 0
+IsAnswerOn None signature values (judged.Whole report) registers answer = answer ≡ answers.Report report
+IsAnswerOn None signature values (judged.Prefix report) registers answer = answer ≡ answers.Prefix report
+IsAnswerOn (Some quote) signature values on registers answer =
+    (report : AttestReport) × (answer ≡ answers.Attestation report) × (attest_verdict_of report ≡ told_by quote signature values registers on)
+
+-- What was judged, where it is a whole list.
+abbrev pub whole_of : Report → ScopedReport
+whole_of report = judged.Whole report
+
+-- The answer is on the log and on this list, the whole of an input, and nobody goes on from it: the report is the verdict on both, the registers
+-- are those after both, and these are the unknown ones of the list's entries.
+pub record IsOnWhole (place : Where) (evidence : Evidence) (answer : Answer) (unknown : Option UnknownFiles) (list : List ℕ) : Type 0 where
+  pub report : Report
+  pub within : length list ≤ limit_of place
+  pub verdict_is : IsVerdictUnder evidence.rule evidence.log list evidence.expected (verdict_of report)
+  pub unknown_are : TellsUnknown evidence.known_files 0 unknown verdict_is.entries
+  pub answer_is : IsAnswerOn evidence.quote evidence.signature evidence.values (whole_of report)
+      (pcr_after_log_and_list (algs_in verdict_is.table) verdict_is.events verdict_is.entries) answer
 
 -- The answer is on this evidence and the list of this input; this is where to go on; and these are the unknown ones of the entries that the
 -- answer is on, without those of the list that was taken before.
 abbrev pub IsJudged : Inputs → Judgement → Where → Evidence → Answer → Option Checkpoint → Option UnknownFiles → Type 0
 IsJudged inputs (VerdictOf place scope resume) list evidence answer (Some next) unknown =
     (on : ScopedReport) × IsVerdictOn inputs scope list evidence (TellsUnknown evidence.known_files (entries_taken evidence.checkpoint) unknown) on next
-    × IsAnswerOn evidence.quote evidence.signature evidence.values on next answer
+    × IsAnswerOn evidence.quote evidence.signature evidence.values on (value_at next.after) answer
+IsJudged inputs (WholeVerdictOf place) list evidence answer None unknown = OfInput inputs list (IsOnWhole list evidence answer unknown)
 IsJudged inputs (PositionsOf place) list evidence (answers.Positions located) None unknown =
     OfInput inputs list (λ all. AreLocated evidence.log all evidence.expected located.items) × (unknown ≡ None)
 IsJudged inputs ListVerdictOf list evidence (answers.ListReport report) None unknown =
@@ -271,6 +290,8 @@ pub record IsNotTaken (inputs : Inputs) (scope : Scope) (list : Where) (evidence
 abbrev pub IsNotJudged : Inputs → Judgement → Where → Evidence → RunFault → Type 0
 IsNotJudged inputs (VerdictOf place scope resume) list evidence fault =
     IsLogRefused evidence.log evidence.checkpoint fault ⊎ IsNotTaken inputs scope list evidence fault
+IsNotJudged inputs (WholeVerdictOf place) list evidence fault =
+    HasLogFault evidence.log fault ⊎ (ReadsAsLog evidence.log × IsRefusedList inputs list fault)
 IsNotJudged inputs (PositionsOf place) list evidence fault =
     HasLogFault evidence.log fault ⊎ (ReadsAsLog evidence.log × IsRefusedList inputs list fault)
 IsNotJudged inputs ListVerdictOf list evidence fault = IsRefusedList inputs list fault
@@ -383,6 +404,7 @@ pub record IsEvidence (inputs : Inputs) (request : Compared) (evidence : Evidenc
   pub log_is : MatchOption (log_of request.judgement) (evidence.log ≡ []) (λ place. Holds inputs place evidence.log)
   pub expected_are : OfInput inputs request.expected (λ text. IsExpectedText text evidence.expected)
   pub none_quoted : evidence.quote ≡ None
+  pub rule_is : evidence.rule ≡ rule_by request.required request.old_kernel
   pub state : Option SavedState
   pub state_is : IsResumedState inputs (resume_of request.judgement) state
   pub checkpoint_is : evidence.checkpoint ≡ checkpoint_of state
@@ -396,6 +418,7 @@ evidence_of held = record {
   quote = option_map (λ quote. quote_of quote.now) held.quote;
   signature = held.signature;
   values = held.values;
+  rule = held.rule;
   checkpoint = held.checkpoint;
   known_files = held.known_files;
 }
@@ -504,7 +527,7 @@ IsNoComparison inputs request fault =
 
 -- The terms of what is asked, where its text spells these ranges.
 abbrev pub terms_with : AttestRequested → List BankRange → Terms
-terms_with asked ranges = record { nonce = asked.nonce; required = ranges; takes_sha1 = asked.takes_sha1 }
+terms_with asked ranges = record { nonce = asked.nonce; required = ranges; takes_sha1 = asked.takes_sha1; rule = wide_rule asked.old_kernel }
 
 -- The text spells these ranges, and with them the terms are sound.
 abbrev pub AreTaken : AttestRequested → List BankRange → Type 0
@@ -552,15 +575,16 @@ pub record AreCounted (inputs : Inputs) (expected : Option Where) (quote : TpmQu
   pub counted_is : counted ≡ counted_by quote stated
 
 -- What a list is judged with by a quote, with the expected registers that count.
-abbrev pub quoted_evidence : List ℕ → TpmQuote → SignatureState → ExpectedValues → List Expected → Option Checkpoint → Option KnownFiles
-    → Evidence
-quoted_evidence log quote signature values counted checkpoint known_files = record {
+abbrev pub quoted_evidence : AggregateRule → List ℕ → TpmQuote → SignatureState → ExpectedValues → List Expected → Option Checkpoint
+    → Option KnownFiles → Evidence
+quoted_evidence rule log quote signature values counted checkpoint known_files = record {
   required = None;
   log = log;
   expected = counted;
   quote = Some quote;
   signature = signature;
   values = values;
+  rule = rule;
   checkpoint = checkpoint;
   known_files = known_files;
 }
@@ -589,8 +613,8 @@ pub record IsAttestation (inputs : Inputs) (asked : AttestRequested) (given : An
   pub state_is : IsResumedState inputs asked.resume state
   pub boot_is : IfSome state (IsOfQuote quote)
   pub files_are : AreKnownFiles inputs asked.known files
-  pub judged : IsJudged inputs (VerdictOf asked.log asked.scope asked.resume) asked.list
-      (quoted_evidence log quote signature values counted (checkpoint_of state) files) given.answer next given.unknown
+  pub judged : IsJudged inputs (verdict_asked asked) asked.list
+      (quoted_evidence (wide_rule asked.old_kernel) log quote signature values counted (checkpoint_of state) files) given.answer next given.unknown
   pub none_required : given.requirement ≡ None
   pub success_is : given.is_success ≡ is_success Nothing None given.unknown given.answer
   pub next_is : given.next ≡ (if given.is_success then state_after (Some (boot_of quote)) next else None)
@@ -626,8 +650,8 @@ IsNotJudgedBy inputs asked quote signature fault =
     × Holds inputs asked.log log
     × AreCounted inputs asked.expected quote values counted × IsResumedState inputs asked.resume state × IfSome state (IsOfQuote quote)
     × AreKnownFiles inputs asked.known files
-    × IsNotFound inputs (VerdictOf asked.log asked.scope asked.resume) asked.list
-    (quoted_evidence log quote signature values counted (checkpoint_of state) files) fault)
+    × IsNotFound inputs (verdict_asked asked) asked.list
+    (quoted_evidence (wide_rule asked.old_kernel) log quote signature values counted (checkpoint_of state) files) fault)
 
 -- Why the inputs have no key, or no signature of the message by it: the key is not read, or the signature is not; or both are, and the message is
 -- not signed so, or memory ran out.

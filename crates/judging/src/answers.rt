@@ -1,9 +1,9 @@
 //! The answer to what is asked for, by one path.
 
-ghost use Rattle.std.specs.Prelude.{◌≡◌, ◌⊎◌, [], true, None, if◌then◌else◌, option_map, IfOk, IfErr, IsSomeAnd, MatchOption};
+ghost use Rattle.std.specs.Prelude.{◌≡◌, ◌⊎◌, [], true, None, if◌then◌else◌, option_map, IfOk, IfErr, IsSomeAnd, MatchOption, MatchResult};
 ghost use Rattle.boot_verdict.specs.Names.{verdict_of};
-ghost use Rattle.judging.specs.Answering.{HasNoEvidence, IsAnswer, IsComparison, IsEvidence, IsResumedState, IsNoCheckpoint, IsNoComparison, IsNotCompared, IsNotRequired, IsRefusal, IsRequired, checkpoint_of, evidence_of, is_good, is_match, is_success, state_after, Finds, FindsFrom};
-ghost use Rattle.judging.specs.Requests.{ListVerdictOf, requested_of, compared_of, held_bytes, judgement_of, log_of, location_of, requires_of, resume_of, takes_known};
+ghost use Rattle.judging.specs.Answering.{HasNoEvidence, IsAnswer, IsComparison, IsEvidence, IsJudged, IsNotFound, IsResumedState, IsNoCheckpoint, IsNoComparison, IsNotCompared, IsNotRequired, IsRefusal, IsRequired, checkpoint_of, evidence_of, is_good, is_match, is_success, state_after, Finds, FindsFrom};
+ghost use Rattle.judging.specs.Requests.{ListVerdictOf, requested_of, compared_of, held_bytes, judgement_of, log_of, location_of, requires_of, resume_of, rule_by, takes_known};
 ghost use Rattle.judging.specs.Inputs.{Holds, IsInputFault, OfInput};
 
 use crate::attesting::attest;
@@ -15,10 +15,11 @@ use crate::request::{
     Answer, Answered, Answering, Comparison, Found, ReportKind, Request, Required,
 };
 use crate::sessions::checkpoint_in;
-use agent_inputs::{AgentFiles, RunFault, not_read};
+use agent_inputs::{AgentFiles, RunFault, STANDARD_INPUT, not_read};
 use attestations::{ExpectedValues, SignatureState};
 use boot_verdict::{
-    Checkpoint, Report, Requirement, all_found, locate_from, required_found, verify_list_from,
+    AggregateRule, Checkpoint, Report, Requirement, all_found, locate_from, required_found,
+    verify_list_from,
 };
 use byte_streams::{Failed, SliceSource, Source};
 use growing_lists::{Boot, SavedState};
@@ -133,6 +134,8 @@ pub(crate) struct Evidence<'a> {
     pub signature: SignatureState,
     /// What came of the values of expected registers beside the quote.
     pub values: ExpectedValues,
+    /// By which rule the boot aggregate is taken.
+    pub rule: AggregateRule,
     /// The checkpoint to go on from, if there is one.
     pub checkpoint: Option<Checkpoint>,
     /// The files that are known, if files have to be known.
@@ -164,9 +167,24 @@ fn evidence_of<'a, F: AgentFiles>(
         quote: None,
         signature: SignatureState::NotChecked,
         values: ExpectedValues::NotGiven,
+        rule: rule_by(request.required, request.old_kernel),
         checkpoint: checkpoint_of(state),
         known_files,
     })
+}
+
+// By which rule the boot aggregate is taken where this has to be among the expected registers: only beside a text of them an entry of any template
+// is, and an older kernel's aggregate, if that is asked for.
+fn rule_by(required: Required<'_>, old_kernel: bool) -> AggregateRule
+    ensures { result ≡ rule_by (requires_of required.entry) old_kernel }
+{
+    match required {
+        Required::Nothing | Required::Any => AggregateRule::PLAIN,
+        Required::These(_) => AggregateRule {
+            wide: true,
+            old_kernel,
+        },
+    }
 }
 
 // The bytes of the log, if there is one.
@@ -183,6 +201,7 @@ fn log_in<'a, F: AgentFiles>(
 {
     match wanted {
         ReportKind::Verdict { log, .. } => load_at(alloc, files, log),
+        ReportKind::WholeVerdict { log } => load_at(alloc, files, log),
         ReportKind::Positions { log } => load_at(alloc, files, log),
         ReportKind::ListVerdict => Ok(Held::Bytes(&[])),
     }
@@ -243,6 +262,33 @@ impl Evidence<'_> {
                 Ok(mut source) => self.find_from(alloc, &mut source, request),
                 Err(Failed) => Err(not_read(alloc, name)),
             },
+            Input::StandardInput => match files.source(None) {
+                Ok(mut source) => self.find_from(alloc, &mut source, request),
+                Err(Failed) => Err(not_read(alloc, STANDARD_INPUT)),
+            },
+            Input::HcrtmLog(_) => self.find_loaded(alloc, files, request),
+        }
+    }
+
+    // Loads the list, and finds what is asked for in it.
+    #[inline(never)]
+    fn find_loaded<F: AgentFiles>(
+        &self,
+        alloc: Global,
+        files: &mut F,
+        request: Comparison<'_>,
+    ) -> Finding
+        ensures found { MatchResult result
+            (λ found. IsJudged (F.inputs files.old) (judgement_of request.entry.wanted) (location_of request.entry.list) (evidence_of self.now)
+            found.answer found.next found.unknown)
+            (λ fault. IsInputFault (F.inputs files.old) (location_of request.entry.list) fault
+            ⊎ IsNotFound (F.inputs files.old) (judgement_of request.entry.wanted) (location_of request.entry.list) (evidence_of self.now) fault) }
+        ensures inputs { F.inputs files.new ≡ F.inputs files.old }
+        ensures replaced { F.replaced files.new ≡ F.replaced files.old }
+    {
+        match load_at(alloc, files, request.list) {
+            Ok(held) => self.find_from(alloc, &mut SliceSource::new(held.bytes()), request),
+            Err(fault) => Err(fault),
         }
     }
 
@@ -259,6 +305,7 @@ impl Evidence<'_> {
         let list = request.list;
         match request.wanted {
             ReportKind::Verdict { scope, .. } => self.verdict_from(alloc, source, list, scope),
+            ReportKind::WholeVerdict { .. } => self.whole_verdict_from(alloc, source, list),
             ReportKind::Positions { .. } => {
                 let log = self.log.bytes();
                 match locate_from(alloc, log, source, limit_of(list), &self.expected) {

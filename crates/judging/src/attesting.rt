@@ -1,6 +1,7 @@
 //! The judgement on a log and a list by a quote.
 
 ghost use Rattle.std.specs.Prelude.{◌≡◌, ◌↔◌, ◌⊎◌, ℕ, List, None, option_map, IfOk, IfErr, IfSome, IsTrue};
+ghost use Rattle.pcr_banks.specs.Names.{value_at};
 ghost use Rattle.pcr_values.specs.declared.selection.BankRange.{BankRange};
 ghost use Rattle.pcr_values.specs.Names.{BeginsWithBankRange};
 ghost use Rattle.boot_verdict.specs.Names.{IsRequirementText};
@@ -12,18 +13,21 @@ ghost use Rattle.attestations.specs.Policies.{terms_of};
 ghost use Rattle.attestations.specs.Reports.{attest_verdict_of};
 ghost use Rattle.agent_inputs.specs.declared.fault.RunFault.TheVariants as runs;
 ghost use Rattle.judging.specs.Answering.{AreCounted, AreTaken, IsAskedFor, IsAttestation, IsResumedState, IsNoAttestation, IsNotJudgedBy, IsNoResumedState, IsNotStated, IsOfQuote, told_by};
-ghost use Rattle.judging.specs.Requests.{VerdictOf, attested_of, judgement_of, location_of, resume_of};
+ghost use Rattle.judging.specs.Requests.{attested_of, judgement_of, location_of, resume_of, verdict_asked};
 
 use crate::answers::{Evidence, answered_with, checkpoint_of, state_in};
 use crate::inputs::{Input, known_in, load_at};
-use crate::request::{Answering, AttestRequest, Comparison, ReportKind, Required, ScopedReport};
+use crate::request::{
+    Answering, AttestRequest, Comparison, ReportKind, Required, ScopedReport, verdict_wanted,
+};
 use crate::signing::{message_in, vouch_for};
 use agent_inputs::{AgentFiles, NotResumed, RunFault};
 use attestations::{
     AttestReport, ExpectedValues, Policy, Quoted, SignatureState, Whole, keep_confirmed, quote_for,
 };
-use boot_verdict::{Checkpoint, Requirement};
+use boot_verdict::{AggregateRule, Requirement};
 use growing_lists::{Boot, SavedState};
+use pcr_banks::Banks;
 use pcr_values::{Expected, SelectionFault, read_expected};
 use std::alloc::Global;
 use tpm_quotes::Quote;
@@ -47,6 +51,10 @@ pub(crate) fn attest<F: AgentFiles>(
         nonce: request.nonce,
         required: &required,
         takes_sha1: request.takes_sha1,
+        rule: AggregateRule {
+            wide: true,
+            old_kernel: request.old_kernel,
+        },
     };
     if policy.fault().is_some() {
         return Err(RunFault::Usage);
@@ -111,6 +119,10 @@ fn answer_by_quote<F: AgentFiles>(
         quote: Some(quote),
         signature,
         values,
+        rule: AggregateRule {
+            wide: true,
+            old_kernel: request.old_kernel,
+        },
         checkpoint: checkpoint_of(state),
         known_files,
     };
@@ -176,32 +188,30 @@ fn is_of_quote(state: Option<SavedState>, quote: &Quote<'_>) -> bool
 
 // The verdict on log and list, as it is asked for where registers are expected.
 fn comparison_of(request: AttestRequest<'_>) -> Comparison<'_>
-    ensures wanted { judgement_of result.wanted ≡ VerdictOf (attested_of request.entry).log request.entry.scope (attested_of request.entry).resume }
+    ensures wanted { judgement_of result.wanted ≡ verdict_asked (attested_of request.entry) }
+    ensures resume { resume_of (judgement_of result.wanted) ≡ (attested_of request.entry).resume }
     ensures list { location_of result.list ≡ (attested_of request.entry).list }
 {
     Comparison {
-        wanted: ReportKind::Verdict {
-            log: request.log,
-            scope: request.scope,
-            resume: request.resume,
-        },
+        wanted: verdict_wanted(request.log, request.scope, request.resume, request.saves),
         list: request.list,
         expected: Input::Bytes(&[]),
         required: Required::Nothing,
+        old_kernel: false,
         known: &[],
     }
 }
 
-/// The report by this quote on what was judged, after which this is known. Fails only for want of memory.
+/// The report by this quote on what was judged, after which these are the registers. Fails only for want of memory.
 pub(crate) fn report_on(
     alloc: Global,
     judged: ScopedReport,
-    next: &Checkpoint,
+    registers: &Banks,
     quote: &Quote<'_>,
     signature: SignatureState,
     values: ExpectedValues,
 ) -> Result<AttestReport, RunFault>
-    ensures report { IfOk result (λ report. attest_verdict_of report ≡ told_by (quote_of quote.now) signature values next.now judged) }
+    ensures report { IfOk result (λ report. attest_verdict_of report ≡ told_by (quote_of quote.now) signature values (value_at registers.now) judged) }
     ensures fault { IfErr result (λ fault. fault ≡ runs.Memory) }
 {
     let quoted = Quoted::of(alloc, quote)?;
@@ -220,7 +230,7 @@ pub(crate) fn report_on(
         report,
         prefix,
         expected: values,
-        is_quoted: quote.is_of(&next.after),
+        is_quoted: quote.is_of(registers),
         signature,
     })
 }

@@ -6,7 +6,9 @@ ghost use Rattle.judging.specs.Requests.{held_bytes, location_of};
 ghost use Rattle.judging.specs.Inputs.{Holds, IsFaultAt, IsInputFault, limit_of};
 ghost use Rattle.judging.specs.Answering.{AreKnownFiles, IsFirstNotKnown, IsTextRefused, ListsAlso};
 
-use agent_inputs::{AgentFiles, INPUT_LIMIT, RunFault, load_input, not_read, too_long};
+use agent_inputs::{
+    AgentFiles, INPUT_LIMIT, RunFault, STANDARD_INPUT, load_input, load_log, not_read, too_long,
+};
 use boot_verdict::VerifyFault;
 use known_files::{KnownFiles, ListedFiles};
 use std::alloc::Global;
@@ -19,14 +21,19 @@ const MOST_BYTES: u64 = (1 << 63) - 1;
 pub enum Input<'a> {
     /// In the file of this name.
     File(&'a str),
+    /// Standard input.
+    StandardInput,
+    /// The log in the file of this name, whose H-CRTM event tells where the machine started: what is replayed of it is its bytes with what that
+    /// tells.
+    HcrtmLog(&'a str),
     /// In memory: these are all of its bytes.
     Bytes(&'a [u8]),
 }
 
 /// All bytes of an input.
 #[derive(Drop)]
-pub(crate) enum Held<'a> {
-    /// Those of a file.
+pub enum Held<'a> {
+    /// Those of a file or of standard input.
     File(Vec<u8>),
     /// Those of a caller.
     Bytes(&'a [u8]),
@@ -44,8 +51,8 @@ impl Held<'_> {
     }
 }
 
-/// All bytes of an input: of a file at most 64 MiB. A fault names the file.
-pub(crate) fn load_at<'a, F: AgentFiles>(
+/// All bytes of an input: of a file or of standard input at most 64 MiB. A fault names the file; standard input is `-`.
+pub fn load_at<'a, F: AgentFiles>(
     alloc: Global,
     files: &mut F,
     input: Input<'a>,
@@ -58,6 +65,11 @@ pub(crate) fn load_at<'a, F: AgentFiles>(
     match input {
         Input::Bytes(bytes) => Ok(Held::Bytes(bytes)),
         Input::File(name) => Ok(Held::File(load_input(alloc, files, Some(name))?)),
+        Input::StandardInput => Ok(Held::File(load_input(alloc, files, None)?)),
+        Input::HcrtmLog(name) => {
+            let log = load_log(alloc, files, Some(name), true)?;
+            Ok(Held::File(log))
+        }
     }
 }
 
@@ -66,12 +78,13 @@ pub(crate) fn limit_of(input: Input<'_>) -> u64
     ensures { result ≡ limit_of (location_of input.entry) }
 {
     match input {
-        Input::File(_) => INPUT_LIMIT,
-        Input::Bytes(_) => MOST_BYTES,
+        Input::File(_) | Input::StandardInput => INPUT_LIMIT,
+        Input::HcrtmLog(_) | Input::Bytes(_) => MOST_BYTES,
     }
 }
 
-/// The fault for a verifier's fault of the list in this input. Of bytes in memory no source fails, and none are too many.
+/// The fault for a verifier's fault of the list in this input. Of bytes in memory, or that are loaded before, no source fails, and none are too
+/// many.
 pub(crate) fn refusal(alloc: Global, list: Input<'_>, fault: VerifyFault) -> RunFault
     ensures { IsFaultAt (location_of list.entry) fault result }
 {
@@ -81,7 +94,11 @@ pub(crate) fn refusal(alloc: Global, list: Input<'_>, fault: VerifyFault) -> Run
         (VerifyFault::Replay(fault), _) => RunFault::Replay(fault),
         (VerifyFault::Source, Input::File(name)) => not_read(alloc, name),
         (VerifyFault::TooLong, Input::File(name)) => too_long(alloc, name),
-        (VerifyFault::Source | VerifyFault::TooLong, Input::Bytes(_)) => RunFault::Memory,
+        (VerifyFault::Source, Input::StandardInput) => not_read(alloc, STANDARD_INPUT),
+        (VerifyFault::TooLong, Input::StandardInput) => too_long(alloc, STANDARD_INPUT),
+        (VerifyFault::Source | VerifyFault::TooLong, Input::HcrtmLog(_) | Input::Bytes(_)) => {
+            RunFault::Memory
+        }
         (VerifyFault::Memory, _) => RunFault::Memory,
     }
 }

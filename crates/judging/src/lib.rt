@@ -11,10 +11,11 @@ mod registers;
 mod request;
 mod sessions;
 mod signing;
+mod whole_verdicts;
 
 pub use answers::answer_request;
-pub use inputs::Input;
-pub use queries::{attesting_by, known_inputs, request_of, save_of};
+pub use inputs::{Held, Input, load_at};
+pub use queries::{attesting_by, input_named, known_inputs, log_input, request_of, save_of};
 pub use request::{
     Answer, Answered, AttestRequest, Comparison, Registers, ReportKind, Request, Required, Signing,
     on_prefix,

@@ -2,12 +2,16 @@
 
 ghost use Rattle.std.specs.Prelude.{◌≡◌, [], map, option_map, IfOk, OnErr};
 ghost use Rattle.judging.specs.Requests.{requested_of, location_of, attested_of, compared_of, judgement_of, requires_of, signing_of};
-ghost use Rattle.judging.specs.Queries.{attested_with, requested_by, file_of, files_of, known_by, attested_by, compared_by, judgement_by, requires_by, save_by, signing_by, with_known};
+ghost use Rattle.judging.specs.Queries.{attested_with, requested_by, file_of, input_named, log_named, log_place, files_of, known_by, attested_by, compared_by, judgement_by, requires_by, save_by, signing_by, with_known};
 
 use crate::inputs::Input;
-use crate::request::{AttestRequest, Comparison, ReportKind, Request, Required, Signing};
+use crate::request::{
+    AttestRequest, Comparison, ReportKind, Request, Required, Signing, verdict_wanted,
+};
+use agent_inputs::opened_name;
 use agent_plans::{
-    AttestOptions, ComparisonKind, ComparisonOptions, Query, Quoting, Scope, SigningOptions,
+    AttestOptions, ComparisonKind, ComparisonOptions, LogFile, Query, Quoting, Scope,
+    SigningOptions,
 };
 use std::alloc::{AllocError, Global};
 
@@ -22,6 +26,34 @@ pub fn known_inputs(alloc: Global, question: &Query) -> Result<Vec<Input<'_>>, A
         inputs.push(Input::File(name))?;
     }
     Ok(inputs)
+}
+
+/// The input that an argument names, where `-` is standard input.
+pub fn input_named(argument: &str) -> Input<'_>
+    ensures { location_of result ≡ input_named argument.now }
+{
+    match opened_name(argument) {
+        None => Input::StandardInput,
+        Some(name) => Input::File(name),
+    }
+}
+
+/// The log in the file of this name: its H-CRTM event tells where the machine started, or it is replayed as it stands.
+pub fn log_input(name: &str, hcrtm: bool) -> Input<'_>
+    ensures { location_of result ≡ log_place hcrtm name.now }
+{
+    if hcrtm {
+        Input::HcrtmLog(name)
+    } else {
+        Input::File(name)
+    }
+}
+
+// The log, in its file.
+fn log_named(log: &LogFile) -> Input<'_>
+    ensures { location_of result ≡ log_named log.now }
+{
+    log_input(&log.name, log.hcrtm)
 }
 
 // The names of the texts of known files.
@@ -47,7 +79,7 @@ pub fn request_of<'a>(question: &'a Query, known: &'a [Input<'a>]) -> Request<'a
 {
     match question {
         Query::LogRegisters { log } => Request::LogRegisters {
-            log: Input::File(log),
+            log: log_named(log),
         },
         Query::ListRegisters { list } => Request::ListRegisters {
             list: Input::File(list),
@@ -55,7 +87,7 @@ pub fn request_of<'a>(question: &'a Query, known: &'a [Input<'a>]) -> Request<'a
         Query::Comparison(judge) => Request::Comparison(comparison_of(judge, known)),
         Query::Attestation(attest) => Request::Attestation(attesting_of(attest, known)),
         Query::Expected { printed, registers } => Request::Expected {
-            printed: Input::File(printed),
+            printed: input_named(printed),
             registers: match registers {
                 None => None,
                 Some(range) => Some(range.as_bytes()),
@@ -66,7 +98,7 @@ pub fn request_of<'a>(question: &'a Query, known: &'a [Input<'a>]) -> Request<'a
             purpose,
             part,
         } => Request::Key {
-            area: Input::File(area),
+            area: input_named(area),
             purpose: *purpose,
             part: *part,
         },
@@ -82,8 +114,9 @@ fn attesting_of<'a>(attest: &'a AttestOptions, known: &'a [Input<'a>]) -> Attest
         expected: file_of(&attest.expected),
         scope: attest.scope,
         resume: file_of(&attest.resume),
+        saves: attest.save.is_some(),
         known,
-        ..attesting_by(Input::File(&attest.log), &attest.quoting)
+        ..attesting_by(log_named(&attest.log), &attest.quoting)
     }
 }
 
@@ -99,9 +132,11 @@ pub fn attesting_by<'a>(log: Input<'a>, quoting: &'a Quoting) -> AttestRequest<'
         nonce: &quoting.nonce,
         required: quoting.required.as_bytes(),
         takes_sha1: quoting.takes_sha1,
+        old_kernel: quoting.old_kernel,
         signing: signing_of(&quoting.signing),
         scope: Scope::Whole,
         resume: None,
+        saves: false,
         known: &[],
     }
 }
@@ -140,6 +175,7 @@ fn comparison_of<'a>(judge: &'a ComparisonOptions, known: &'a [Input<'a>]) -> Co
         list: Input::File(&judge.list),
         expected: Input::File(&judge.expected),
         required: required_of(judge),
+        old_kernel: judge.old_kernel,
         known,
     }
 }
@@ -153,14 +189,10 @@ fn wanted_of(kind: &ComparisonKind) -> ReportKind<'_>
             log,
             scope,
             resume,
-            ..
-        } => ReportKind::Verdict {
-            log: Input::File(log),
-            scope: *scope,
-            resume: file_of(resume),
-        },
+            save,
+        } => verdict_wanted(log_named(log), *scope, file_of(resume), save.is_some()),
         ComparisonKind::Positions { log } => ReportKind::Positions {
-            log: Input::File(log),
+            log: log_named(log),
         },
         ComparisonKind::ListVerdict => ReportKind::ListVerdict,
     }

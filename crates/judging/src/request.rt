@@ -1,8 +1,9 @@
 //! Requests on logs, lists, quotes, printed PCR values and keys, and their answers before they are written.
 
-ghost use Rattle.std.specs.Prelude.{◌≡◌, option_map};
+ghost use Rattle.std.specs.Prelude.{◌≡◌, None, option_map};
+ghost use Rattle.agent_plans.specs.declared.plan.Scope.TheVariants.{Prefix};
 ghost use Rattle.judging.specs.Answering.{alone};
-ghost use Rattle.judging.specs.Requests.{requested_of, on_prefix};
+ghost use Rattle.judging.specs.Requests.{VerdictOf, judgement_of, location_of, requested_of, on_prefix, resume_of, verdict_for};
 
 use crate::inputs::Input;
 use agent_inputs::RunFault;
@@ -18,7 +19,7 @@ use tpm_keys::{KeyPart, KeyReport, Purpose};
 /// Which report on a list is wanted, with the inputs and options that only it has.
 #[derive(Clone, Copy)]
 pub enum ReportKind<'a> {
-    /// The verdict on a log, a list and expected registers.
+    /// The verdict on a log, a list and expected registers, from which another may go on.
     Verdict {
         /// The firmware event log.
         log: Input<'a>,
@@ -26,6 +27,11 @@ pub enum ReportKind<'a> {
         scope: Scope,
         /// The checkpoint to go on from, if there is one.
         resume: Option<Input<'a>>,
+    },
+    /// The verdict on a log, a whole list and expected registers, from which nobody goes on: only the banks that are compared are replayed.
+    WholeVerdict {
+        /// The firmware event log.
+        log: Input<'a>,
     },
     /// Where the expected registers first have their values.
     Positions {
@@ -58,6 +64,8 @@ pub struct Comparison<'a> {
     pub expected: Input<'a>,
     /// What has to be among them.
     pub required: Required<'a>,
+    /// Whether the boot aggregate of a kernel before 5.8 is taken: only beside a text of required registers.
+    pub old_kernel: bool,
     /// The texts of known files, if files have to be known: only for a verdict, and beside a text of required registers.
     pub known: &'a [Input<'a>],
 }
@@ -93,6 +101,8 @@ pub struct AttestRequest<'a> {
     pub required: &'a [u8],
     /// Whether a register may be required in the SHA-1 bank alone.
     pub takes_sha1: bool,
+    /// Whether the boot aggregate of a kernel before 5.8 is taken.
+    pub old_kernel: bool,
     /// What tells that the message is signed by the right key.
     pub signing: Signing<'a>,
     /// The text of expected registers, if there is one: nobody has signed it. If the quote confirms their values, the report has rows of them.
@@ -101,6 +111,8 @@ pub struct AttestRequest<'a> {
     pub scope: Scope,
     /// The checkpoint to go on from, if there is one.
     pub resume: Option<Input<'a>>,
+    /// Whether somebody saves where to go on. Otherwise a whole list that goes on from nothing is replayed into the compared banks alone.
+    pub saves: bool,
     /// The texts of known files, if files have to be known.
     pub known: &'a [Input<'a>],
 }
@@ -155,6 +167,7 @@ pub fn on_prefix(request: Request<'_>) -> Option<Request<'_>>
                 list,
                 expected,
                 required,
+                old_kernel,
                 known,
             },
         ) => Some(Request::Comparison(Comparison {
@@ -166,6 +179,24 @@ pub fn on_prefix(request: Request<'_>) -> Option<Request<'_>>
             list,
             expected,
             required,
+            old_kernel,
+            known,
+        })),
+        Request::Comparison(
+            Comparison {
+                wanted: ReportKind::WholeVerdict { log },
+                list,
+                expected,
+                required,
+                old_kernel,
+                known,
+            },
+        ) => Some(Request::Comparison(Comparison {
+            wanted: prefix_verdict(log),
+            list,
+            expected,
+            required,
+            old_kernel,
             known,
         })),
         Request::Attestation(
@@ -178,6 +209,33 @@ pub fn on_prefix(request: Request<'_>) -> Option<Request<'_>>
             ..asked
         })),
         _ => None,
+    }
+}
+
+// The verdict on the confirmed prefix of a list of which nothing was taken before.
+fn prefix_verdict(log: Input<'_>) -> ReportKind<'_>
+    ensures { judgement_of result ≡ VerdictOf (location_of log.entry) Prefix None }
+{
+    ReportKind::Verdict {
+        log,
+        scope: Scope::Prefix,
+        resume: None,
+    }
+}
+
+/// The verdict on a log and a list that is wanted, where somebody saves where to go on, or nobody does.
+pub(crate) fn verdict_wanted<'a>(
+    log: Input<'a>,
+    scope: Scope,
+    resume: Option<Input<'a>>,
+    saves: bool,
+) -> ReportKind<'a>
+    ensures wanted { judgement_of result ≡ verdict_for saves (location_of log.entry) scope (option_map location_of resume.entry) }
+    ensures resume { resume_of (judgement_of result) ≡ option_map location_of resume.entry }
+{
+    match (saves, scope, resume) {
+        (false, Scope::Whole, None) => ReportKind::WholeVerdict { log },
+        _ => ReportKind::Verdict { log, scope, resume },
     }
 }
 
@@ -263,7 +321,7 @@ impl Answered {
 pub(crate) struct Found {
     /// The answer.
     pub answer: Answer,
-    /// Where to go on, if it is the answer of a verdict on a log and a list.
+    /// Where to go on, if it is the answer of a verdict from which another may.
     pub next: Option<Checkpoint>,
     /// The entries that are not known; none without known files.
     pub unknown: Option<UnknownFiles>,

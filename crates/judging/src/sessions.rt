@@ -1,11 +1,12 @@
 //! Verdicts on a log and a list, which may go on from a checkpoint.
 
 ghost use Rattle.std.specs.Prelude.{◌≡◌, ℕ, List, Option, option_map, IfOk, IfErr};
-ghost use Rattle.boot_verdict.specs.Names.{IsVerdict, verdict_of};
-ghost use Rattle.growing_lists.specs.Goals.{goal_data};
+ghost use Rattle.pcr_banks.specs.Names.{value_at};
+ghost use Rattle.boot_verdict.specs.Names.{IsVerdictUnder, verdict_of};
+ghost use Rattle.growing_lists.specs.Goals.{goal_data, sought_data};
 ghost use Rattle.growing_lists.specs.Sessions.{HasTaken};
 ghost use Rattle.agent_inputs.specs.declared.fault.RunFault.TheVariants as runs;
-ghost use Rattle.judging.specs.Answering.{IsCheckpointText, IsNoCheckpoint, goal_in, evidence_of, CanBeReadBack, IsAnswerOn, FindsFrom, IsLogRefused, IsStarted, JudgesFrom, seeks_prefix};
+ghost use Rattle.judging.specs.Answering.{IsCheckpointText, IsNoCheckpoint, goal_in, evidence_of, CanBeReadBack, IsAnswerOn, FindsFrom, IsLogRefused, IsStarted, JudgesFrom, seeks_prefix, sought_by};
 ghost use Rattle.judging.specs.Requests.{VerdictOf, location_of};
 ghost use Rattle.judging.specs.Inputs.{Where};
 
@@ -15,11 +16,12 @@ use crate::inputs::{Input, limit_of, refusal};
 use crate::request::{Answer, Found, ScopedReport};
 use agent_inputs::{NotResumed, RunFault};
 use agent_plans::Scope;
-use boot_verdict::{Checkpoint, CheckpointFault, PrefixReport, Report, ResumeFault};
+use boot_verdict::{AggregateRule, Checkpoint, CheckpointFault, PrefixReport, Report, ResumeFault};
 use byte_streams::Source;
 use growing_lists::laws::counted_checkpoint_is_possible;
-use growing_lists::{Goal, SavedState, Session, leaves_room, read_checkpoint};
+use growing_lists::{Goal, SavedState, Session, Sought, leaves_room, read_checkpoint};
 use known_files::UnknownEntries;
+use pcr_banks::Banks;
 use pcr_values::Expected;
 use std::alloc::{AllocError, Global};
 
@@ -58,7 +60,7 @@ impl Evidence<'_> {
         let (judged, watch) = self.judge_from(alloc, &mut session, source, list, scope, watch)?;
         let next = next_of(&session)?;
         let unknown = watch.within(next.entries)?;
-        let answer = self.answer_on(alloc, judged, &next)?;
+        let answer = self.answer_on(alloc, judged, &next.after)?;
         Ok(Found {
             answer,
             next: Some(next),
@@ -66,22 +68,30 @@ impl Evidence<'_> {
         })
     }
 
-    // The report on what was judged, after which this is known. It fails only if memory runs out.
+    /// The report on what was judged, after which these are the registers. It fails only if memory runs out.
     #[inline(never)]
-    fn answer_on(
+    pub(crate) fn answer_on(
         &self,
         alloc: Global,
         judged: ScopedReport,
-        next: &Checkpoint,
+        registers: &Banks,
     ) -> Result<Answer, RunFault>
-        ensures answer { IfOk result (IsAnswerOn (evidence_of self.now).quote self.now.signature self.now.values judged next.now) }
+        ensures answer { IfOk result (IsAnswerOn (evidence_of self.now).quote self.now.signature self.now.values judged
+            (value_at registers.now)) }
         ensures fault { IfErr result (λ fault. fault ≡ runs.Memory) }
     {
         match (self.quote, judged) {
             (None, ScopedReport::Whole(report)) => Ok(Answer::Report(report)),
             (None, ScopedReport::Prefix(report)) => Ok(Answer::Prefix(report)),
             (Some(quote), judged) => {
-                let report = report_on(alloc, judged, next, quote, self.signature, self.values)?;
+                let report = report_on(
+                    alloc,
+                    judged,
+                    registers,
+                    quote,
+                    self.signature,
+                    self.values,
+                )?;
                 Ok(Answer::Attestation(report))
             }
         }
@@ -105,14 +115,14 @@ impl Evidence<'_> {
             match session.confirm(alloc, source, limit_of(list), self.goal(), watch) {
                 Ok((Some(confirmed), watch)) => {
                     let prefix = PrefixReport {
-                        report: report(alloc, session, &self.expected)?,
+                        report: report(alloc, session, &self.expected, self.rule)?,
                         entries: confirmed.entries,
                         unconfirmed: confirmed.unconfirmed,
                     };
                     Ok((ScopedReport::Prefix(prefix), watch))
                 }
                 Ok((None, watch)) => {
-                    let whole = report(alloc, session, &self.expected)?;
+                    let whole = report(alloc, session, &self.expected, self.rule)?;
                     Ok((ScopedReport::Whole(whole), watch))
                 }
                 Err(fault) => Err(refusal(alloc, list, fault)),
@@ -120,7 +130,7 @@ impl Evidence<'_> {
         } else {
             match session.more(alloc, source, limit_of(list), watch) {
                 Ok(watch) => {
-                    let whole = report(alloc, session, &self.expected)?;
+                    let whole = report(alloc, session, &self.expected, self.rule)?;
                     Ok((ScopedReport::Whole(whole), watch))
                 }
                 Err(fault) => Err(refusal(alloc, list, fault)),
@@ -142,13 +152,23 @@ impl Evidence<'_> {
         }
     }
 
-    // What a prefix is confirmed by.
+    // What a prefix is confirmed by, and by which rule.
     fn goal(&self) -> Goal<'_>
         ensures { goal_data result ≡ goal_in (evidence_of self.now) }
     {
+        Goal {
+            sought: self.sought(),
+            rule: self.rule,
+        }
+    }
+
+    // What a prefix is confirmed by.
+    fn sought(&self) -> Sought<'_>
+        ensures { sought_data result ≡ sought_by (evidence_of self.now).quote (evidence_of self.now).expected }
+    {
         match self.quote {
-            Some(quote) => Goal::Quote(quote),
-            None => Goal::Expected(&self.expected),
+            Some(quote) => Sought::Quote(quote),
+            None => Sought::Expected(&self.expected),
         }
     }
 }
@@ -187,9 +207,19 @@ fn next_of(session: &Session<'_>) -> Result<Checkpoint, RunFault>
     }
 }
 
-// The report on all that the session has taken. It fails only if memory runs out.
-fn report(alloc: Global, session: &Session<'_>, expected: &[Expected]) -> Result<Report, AllocError>
-    ensures { IfOk result (λ report. (log list : List ℕ) → HasTaken log list session.now → IsVerdict log list expected.now (verdict_of report)) }
+// The report by this rule on all that the session has taken. It fails only if memory runs out.
+fn report(
+    alloc: Global,
+    session: &Session<'_>,
+    expected: &[Expected],
+    rule: AggregateRule,
+) -> Result<Report, AllocError>
+    ensures { IfOk result (λ report. (log list : List ℕ) → HasTaken log list session.now
+        → IsVerdictUnder rule log list expected.now (verdict_of report)) }
 {
-    Ok(session.report(alloc, expected).map_err(|_| AllocError)?)
+    Ok(
+        session
+            .report(alloc, expected, rule)
+            .map_err(|_| AllocError)?,
+    )
 }

@@ -10,13 +10,14 @@ use Rattle.boot_log.specs.Names.{IsFirmware, IsLog, LogEvent, algs_in}
 use Rattle.boot_log.proofs.LogLaws.{one_reading}
 use Rattle.ima_list.specs.Names.{AreGenuine, IsReading, IsReplayed, ListEntry, list_spelling}
 use Rattle.ima_list.proofs.ListLaws.{written_reading}
+use Rattle.boot_verdict.specs.declared.aggregate_rule.AggregateRule.{AggregateRule}
 use Rattle.boot_verdict.specs.declared.checkpoint.Checkpoint.{Checkpoint}
 use Rattle.boot_verdict.specs.declared.report.PrefixReport.{PrefixReport}
 use Rattle.boot_verdict.specs.declared.report.Report.{Report}
-use Rattle.boot_verdict.specs.Names.{IsVerdict, Verdict, aggregate_of, are_none, first_extending, first_stray, is_good, pcr_after_log_and_list, recorded_aggregate, verdict_of, verdict_on}
+use Rattle.boot_verdict.specs.Names.{IsVerdictUnder, Verdict, aggregate_under, are_none, first_extending, first_stray, is_good, pcr_after_log_and_list, verdict_of, verdict_under, wide_rule}
 use Rattle.boot_verdict.proofs.ReplayLaws.{one_list}
 use Rattle.known_files.specs.Unknown.{has_no_unknown}
-use Rattle.tpm_quotes.specs.Quoting.{confirms}
+use Rattle.tpm_quotes.specs.Quoting.{Values, confirms}
 use Rattle.tpm_quotes.specs.Spelling.{IsQuote, TpmQuote}
 use Rattle.attestations.specs.declared.expected.ExpectedValues.{ExpectedValues}
 use Rattle.attestations.specs.declared.report.AttestReport.{AttestReport}
@@ -33,9 +34,10 @@ use Rattle.agent_plans.specs.declared.plan.Scope.{Scope}
 use Rattle.agent_plans.specs.declared.plan.Scope.TheVariants.{Whole}
 use Rattle.judging.specs.declared.request.Answer.TheVariants as answers
 use Rattle.judging.specs.declared.request.Answered.{Answered}
-use Rattle.judging.specs.Answering.{Evidence, IsAnswerOn, IsAttestation, IsJudged, IsResumedState, IsNext, IsPrefixOf, IsTaken, IsVerdictOn, IsVouched, OfList, OfMore, TellsUnknown, checkpoint_of, entries_taken, is_good as is_good_answer, most_more, quoted_evidence, seeks_prefix, terms_with, told_by}
+use Rattle.judging.specs.Answering.{Evidence, IsAnswerOn, IsAttestation, IsJudged, IsResumedState, IsNext, IsPrefixOf, IsTaken, IsVerdictOn, IsVouched, OfList, OfMore, TellsUnknown, checkpoint_of, entries_taken, is_good as is_good_answer, most_more, quoted_evidence, seeks_prefix, terms_with, told_by, whole_of}
 use Rattle.judging.specs.Inputs.{OfInput, Where}
-use Rattle.judging.specs.Requests.{AttestRequested, ByCaller, ByKey, NotChecked, Nothing, Signing, VerdictOf}
+use Rattle.judging.specs.Requests.{AttestRequested, ByCaller, ByKey, Judgement, NotChecked, Nothing, Signing, VerdictOf, WholeVerdictOf}
+use Rattle.judging.proofs.RequestLaws.{of_verdict}
 use Rattle.judging_laws.specs.AttestedAnswers.{IsVouchedFor, is_on_prefix, TellsAttested, TellsPrefixAttested, TellsSomeAttested}
 
 -- ---- Booleans
@@ -50,23 +52,23 @@ none_of (Some x) e = absurd cc
 
 -- ---- nothing is against it
 
-no_cause : (algs : AlgSet) (events : List LogEvent) (entries : List ListEntry) (quote : TpmQuote) → first_extending events ≡ None
-    → first_stray entries ≡ None → is_good (aggregate_of algs events (recorded_aggregate entries)) ≡ true
-    → confirms quote (pcr_after_log_and_list algs events entries) ≡ true → cause_against algs events entries quote ≡ None
-no_cause algs events entries quote event entry good same = rw (event, entry, good, same) refl
+no_cause : (rule : AggregateRule) (algs : AlgSet) (events : List LogEvent) (entries : List ListEntry) (quote : TpmQuote)
+    → first_extending events ≡ None → first_stray entries ≡ None → is_good (aggregate_under rule algs events entries) ≡ true
+    → confirms quote (pcr_after_log_and_list algs events entries) ≡ true → cause_against rule algs events entries quote ≡ None
+no_cause rule algs events entries quote event entry good same = rw (event, entry, good, same) refl
 
 -- ---- a report by a quote, where all is well with it
 
--- What was judged is good, and so are the registers after it.
-record AreGood (verdict : Verdict) (quote : TpmQuote) (next : Checkpoint) : Type 0 where
+-- What was judged is good, and so are these values of the registers after it.
+record AreGood (verdict : Verdict) (quote : TpmQuote) (registers : Values) : Type 0 where
   aggregate : is_good verdict.aggregate ≡ true
   apart : are_none verdict.strays ≡ true
-  quoted : confirms quote (value_at next.after) ≡ true
+  quoted : confirms quote registers ≡ true
 
-success_told : (told : AttestVerdict) (quote : TpmQuote) (next : Checkpoint) (signature : SignatureState)
-    → (is_signed told.signature && is_attested told) ≡ true → told.signature ≡ signature → told.is_quoted ≡ confirms quote (value_at next.after)
-    → (is_signed signature ≡ true) × AreGood told.verdict quote next
-success_told told quote next signature success signed_is quoted_is =
+success_told : (told : AttestVerdict) (quote : TpmQuote) (registers : Values) (signature : SignatureState)
+    → (is_signed told.signature && is_attested told) ≡ true → told.signature ≡ signature → told.is_quoted ≡ confirms quote registers
+    → (is_signed signature ≡ true) × AreGood told.verdict quote registers
+success_told told quote registers signature success signed_is quoted_is =
     let signed = both_true (is_signed told.signature) (is_attested told) success in
     let good = both_true (is_good told.verdict.aggregate) (are_none told.verdict.strays && told.is_quoted) signed.1 in
     let last = both_true (are_none told.verdict.strays) told.is_quoted good.1 in
@@ -81,12 +83,11 @@ signed_as inputs (ByKey key signature) message state vouched signed = vouched.1
 
 -- ---- the attestation
 
-attested_on : (log list message : List ℕ) (terms : Terms) (quote : TpmQuote) (expected : List Expected) (table : List DeclaredAlgorithm)
-    (events : List LogEvent) (entries : List ListEntry) (verdict : Verdict) (next : Checkpoint) → policy_fault terms ≡ None
-    → IsQuote message quote → quote_refusal quote terms ≡ None → IsLog log table events → IsReading list (Ok entries) → AreGenuine entries
-    → verdict ≡ verdict_on (algs_in table) events entries expected → IsNext log list next → AreGood verdict quote next
-    → IsAttested log list message terms (attestation_on events entries quote)
-attested_on log list message terms quote expected table events entries verdict next sound message_is taken log_is list_is genuine same next_is good =
+-- The registers after what was judged are as much those that the quote confirms as those after this log and this list.
+next_values : (log list : List ℕ) (quote : TpmQuote) (table : List DeclaredAlgorithm) (events : List LogEvent) (entries : List ListEntry)
+    (next : Checkpoint) → IsLog log table events → IsReading list (Ok entries) → IsNext log list next
+    → confirms quote (value_at next.after) ≡ confirms quote (pcr_after_log_and_list (algs_in table) events entries)
+next_values log list quote table events entries next log_is list_is next_is =
     let boot = next_is.boot in
     let logs = one_reading log boot.table table boot.events events boot.log_is log_is in
     let firmware : IsFirmware (algs_in table) events next.before =
@@ -94,14 +95,22 @@ attested_on log list message terms quote expected table events entries verdict n
     let lists : next_is.checkpoint.entries ≡ entries = one_list next_is.checkpoint.list_is list_is in
     let replayed : IsReplayed next.before entries next.after =
     subst (λ (es : List ListEntry). IsReplayed next.before es next.after) lists next_is.checkpoint.replayed in
-    let values = values_same (algs_in table) events entries next.before next.after quote firmware replayed in
-    let aggregate : is_good (aggregate_of (algs_in table) events (recorded_aggregate entries)) ≡ true =
+    values_same (algs_in table) events entries next.before next.before next.after quote firmware (λ alg register asked. refl) replayed
+
+attested_on : (log list message : List ℕ) (terms : Terms) (quote : TpmQuote) (expected : List Expected) (table : List DeclaredAlgorithm)
+    (events : List LogEvent) (entries : List ListEntry) (verdict : Verdict) (registers : Values) → policy_fault terms ≡ None
+    → IsQuote message quote → quote_refusal quote terms ≡ None → IsLog log table events → IsReading list (Ok entries) → AreGenuine entries
+    → verdict ≡ verdict_under terms.rule (algs_in table) events entries expected
+    → confirms quote registers ≡ confirms quote (pcr_after_log_and_list (algs_in table) events entries) → AreGood verdict quote registers
+    → IsAttested log list message terms (attestation_on terms.rule (algs_in table) events entries quote)
+attested_on log list message terms quote expected table events entries verdict registers sound message_is taken log_is list_is genuine same values good =
+    let aggregate : is_good (aggregate_under terms.rule (algs_in table) events entries) ≡ true =
     subst (λ (v : Verdict). is_good v.aggregate ≡ true) same good.aggregate in
     let apart : (not (is_some (first_extending events)) && not (is_some (first_stray entries))) ≡ true =
     subst (λ (v : Verdict). are_none v.strays ≡ true) same good.apart in
     let none = both_true (not (is_some (first_extending events))) (not (is_some (first_stray entries))) apart in
-    attested_by log list message terms table events entries quote (attestation_on events entries quote) sound message_is taken log_is list_is genuine
-    (no_cause (algs_in table) events entries quote (none_of (first_extending events) none.0) (none_of (first_stray entries) none.1) aggregate
+    attested_by log list message terms table events entries quote (attestation_on terms.rule (algs_in table) events entries quote) sound message_is taken log_is list_is genuine
+    (no_cause terms.rule (algs_in table) events entries quote (none_of (first_extending events) none.0) (none_of (first_stray entries) none.1) aggregate
     (sym values ∙ good.quoted)) refl
 
 -- ---- what was judged
@@ -110,7 +119,7 @@ attested_on log list message terms quote expected table events entries verdict n
 abbrev pub WholeOn : Inputs → Where → Evidence → (List ListEntry → Type 0) → Verdict → Checkpoint → Type 0
 WholeOn inputs list evidence Tells verdict next =
     OfMore inputs list evidence.checkpoint (λ taken more. (length more ≤ most_more evidence.checkpoint list)
-    × IsVerdict evidence.log (taken ++ more) evidence.expected verdict
+    × IsVerdictUnder evidence.rule evidence.log (taken ++ more) evidence.expected verdict
     × ((next_is : IsNext evidence.log (taken ++ more) next) × Tells next_is.checkpoint.entries))
 
 abbrev pub PrefixOn : Inputs → Where → Evidence → (List ListEntry → Type 0) → PrefixReport → Checkpoint → Type 0
@@ -124,20 +133,20 @@ pub of_each : (inputs : Inputs) (scope : Scope) (list : Where) (evidence : Evide
     → ((report : PrefixReport) → seeks_prefix scope evidence ≡ true → PrefixOn inputs list evidence Tells report next
     → Q (verdict_of report.report) true)
     → IsVerdictOn inputs scope list evidence Tells on next
-    → Q (told_by quote signature values next on).verdict (is_some (told_by quote signature values next on).prefix)
+    → Q (told_by quote signature values (value_at next.after) on).verdict (is_some (told_by quote signature values (value_at next.after) on).prefix)
 of_each inputs scope list evidence Tells next quote signature values on Q whole part is = grind (arith, whole, part)
 
-told_signed : (quote : TpmQuote) (signature : SignatureState) (values : ExpectedValues) (next : Checkpoint) (on : _)
-    → (told_by quote signature values next on).signature ≡ signature
-told_signed quote signature values next on = grind arith
+told_signed : (quote : TpmQuote) (signature : SignatureState) (values : ExpectedValues) (registers : Values) (on : _)
+    → (told_by quote signature values registers on).signature ≡ signature
+told_signed quote signature values registers on = grind arith
 
-told_quoted : (quote : TpmQuote) (signature : SignatureState) (values : ExpectedValues) (next : Checkpoint) (on : _)
-    → (told_by quote signature values next on).is_quoted ≡ confirms quote (value_at next.after)
-told_quoted quote signature values next on = grind arith
+told_quoted : (quote : TpmQuote) (signature : SignatureState) (values : ExpectedValues) (registers : Values) (on : _)
+    → (told_by quote signature values registers on).is_quoted ≡ confirms quote registers
+told_quoted quote signature values registers on = grind arith
 
-told_stated : (quote : TpmQuote) (signature : SignatureState) (values : ExpectedValues) (next : Checkpoint) (on : _)
-    → (told_by quote signature values next on).quoted ≡ stated_by quote
-told_stated quote signature values next on = grind arith
+told_stated : (quote : TpmQuote) (signature : SignatureState) (values : ExpectedValues) (registers : Values) (on : _)
+    → (told_by quote signature values registers on).quoted ≡ stated_by quote
+told_stated quote signature values registers on = grind arith
 
 -- ---- the answer
 
@@ -150,26 +159,27 @@ from_nothing inputs asked given is resume =
 
 module _ (inputs : Inputs) (asked : AttestRequested) (given : Answered) (is : IsAttestation inputs asked given) (success : given.is_success ≡ true) where
   abbrev evidence : Evidence
-  evidence = quoted_evidence is.log is.quote is.signature is.values is.counted (checkpoint_of is.state) is.files
+  evidence = quoted_evidence (wide_rule asked.old_kernel) is.log is.quote is.signature is.values is.counted (checkpoint_of is.state) is.files
 
   -- What the answer tells of the entries that it is on.
   abbrev Tells : List ListEntry → Type 0
   Tells = TellsUnknown is.files (entries_taken (checkpoint_of is.state)) given.unknown
 
   -- The answer is a report with this verdict, on the whole list or on a prefix, and all is well with it.
-  record Says (verdict : Verdict) (on_prefix : Bool) (next : Checkpoint) : Type 0 where
+  record Says (verdict : Verdict) (on_prefix : Bool) (registers : Values) : Type 0 where
     report : AttestReport
     answer_is : given.answer ≡ answers.Attestation report
     quoted : stated_of report.quoted ≡ stated_by is.quote
     verdict_is : verdict_of report.report ≡ verdict
     prefix_is : is_on_prefix given.answer ≡ on_prefix
     signed : is_signed is.signature ≡ true
-    good : AreGood verdict is.quote next
+    good : AreGood verdict is.quote registers
 
-  said : (on : _) (next : Checkpoint) → IsAnswerOn (Some is.quote) is.signature is.values on next given.answer
-      → Says (told_by is.quote is.signature is.values next on).verdict (is_some (told_by is.quote is.signature is.values next on).prefix) next
-  said on next answer =
-      let told = told_by is.quote is.signature is.values next on in
+  said : (on : _) (registers : Values) → IsAnswerOn (Some is.quote) is.signature is.values on registers given.answer
+      → Says (told_by is.quote is.signature is.values registers on).verdict
+      (is_some (told_by is.quote is.signature is.values registers on).prefix) registers
+  said on registers answer =
+      let told = told_by is.quote is.signature is.values registers on in
       let report = answer.0 in
       let good_is : is_good_answer Nothing None given.answer ≡ true =
       (both_true (has_no_unknown given.unknown) (is_good_answer Nothing None given.answer) (sym is.success_is ∙ success)).1 in
@@ -177,12 +187,12 @@ module _ (inputs : Inputs) (asked : AttestRequested) (given : Answered) (is : Is
       ap (is_good_answer Nothing None) (sym answer.1) ∙ good_is in
       let there : (is_signed told.signature && is_attested told) ≡ true =
       subst (λ (v : AttestVerdict). (is_signed v.signature && is_attested v) ≡ true) answer.2 here in
-      let good = success_told told is.quote next is.signature there (told_signed is.quote is.signature is.values next on)
-      (told_quoted is.quote is.signature is.values next on) in
+      let good = success_told told is.quote registers is.signature there (told_signed is.quote is.signature is.values registers on)
+      (told_quoted is.quote is.signature is.values registers on) in
       record {
         report = report;
         answer_is = answer.1;
-        quoted = ap (λ (v : AttestVerdict). v.quoted) answer.2 ∙ told_stated is.quote is.signature is.values next on;
+        quoted = ap (λ (v : AttestVerdict). v.quoted) answer.2 ∙ told_stated is.quote is.signature is.values registers on;
         verdict_is = ap (λ (v : AttestVerdict). v.verdict) answer.2;
         prefix_is = ap is_on_prefix answer.1 ∙ ap (λ (v : AttestVerdict). is_some v.prefix) answer.2;
         signed = good.0;
@@ -190,18 +200,19 @@ module _ (inputs : Inputs) (asked : AttestRequested) (given : Answered) (is : Is
       }
 
   tells_on : (list : List ℕ) (table : List DeclaredAlgorithm) (events : List LogEvent) (entries : List ListEntry) (verdict : Verdict)
-      (on_prefix : Bool) (next : Checkpoint) → IsLog is.log table events → IsReading list (Ok entries) → AreGenuine entries
-      → verdict ≡ verdict_on (algs_in table) events entries is.counted → IsNext is.log list next → Says verdict on_prefix next
+      (on_prefix : Bool) (registers : Values) → IsLog is.log table events → IsReading list (Ok entries) → AreGenuine entries
+      → verdict ≡ verdict_under (wide_rule asked.old_kernel) (algs_in table) events entries is.counted
+      → confirms is.quote registers ≡ confirms is.quote (pcr_after_log_and_list (algs_in table) events entries) → Says verdict on_prefix registers
       → TellsAttested inputs asked given is list
-  tells_on list table events entries verdict on_prefix next log_is list_is genuine same next_is says =
+  tells_on list table events entries verdict on_prefix registers log_is list_is genuine same values says =
       record {
         message = is.message;
-        attestation = attestation_on events entries is.quote;
+        attestation = attestation_on (wide_rule asked.old_kernel) (algs_in table) events entries is.quote;
         signed = signed_as inputs asked.signing is.message is.signature is.asked_for.vouched says.signed;
         log_is = is.log_is;
         message_is = is.asked_for.message_is;
-        attested = attested_on is.log list is.message (terms_with asked is.ranges) is.quote is.counted table events entries verdict next is.taken.1
-            is.asked_for.quote_is is.asked_for.not_refused log_is list_is genuine same next_is says.good;
+        attested = attested_on is.log list is.message (terms_with asked is.ranges) is.quote is.counted table events entries verdict registers
+            is.taken.1 is.asked_for.quote_is is.asked_for.not_refused log_is list_is genuine same values says.good;
         quote_is = refl;
         report_is = record {
           report = says.report;
@@ -210,23 +221,25 @@ module _ (inputs : Inputs) (asked : AttestRequested) (given : Answered) (is : Is
           events = ap (λ (v : Verdict). v.events) (says.verdict_is ∙ same);
           locality = ap (λ (v : Verdict). v.locality) (says.verdict_is ∙ same);
           entries = ap (λ (v : Verdict). v.entries) (says.verdict_is ∙ same);
+          aggregate = ap (λ (v : Verdict). v.aggregate) (says.verdict_is ∙ same);
         };
       }
 
   whole_tells : (report : Report) (next : Checkpoint) (taken : List ℕ) → IsTaken (checkpoint_of is.state) taken
-      → WholeOn inputs asked.list evidence Tells (verdict_of report) next → Says (verdict_of report) false next
+      → WholeOn inputs asked.list evidence Tells (verdict_of report) next → Says (verdict_of report) false (value_at next.after)
       → OfInput inputs asked.list (λ more. TellsAttested inputs asked given is (taken ++ more))
   whole_tells report next taken before on says =
       let more = on taken before in
       let found = more.2.1 in (
         more.0,
         more.1,
-        tells_on (taken ++ more.0) found.table found.events found.entries (verdict_of report) false next found.log_is found.list_is found.genuine
-            found.verdict_is more.2.2.0 says,
+        tells_on (taken ++ more.0) found.table found.events found.entries (verdict_of report) false (value_at next.after) found.log_is found.list_is
+            found.genuine found.verdict_is
+            (next_values is.log (taken ++ more.0) is.quote found.table found.events found.entries next found.log_is found.list_is more.2.2.0) says,
       )
 
   prefix_tells : (report : PrefixReport) (next : Checkpoint) (taken : List ℕ) → IsTaken (checkpoint_of is.state) taken
-      → PrefixOn inputs asked.list evidence Tells report next → Says (verdict_of report.report) true next
+      → PrefixOn inputs asked.list evidence Tells report next → Says (verdict_of report.report) true (value_at next.after)
       → OfInput inputs asked.list (λ more. TellsPrefixAttested inputs asked given is (taken ++ more))
   prefix_tells report next taken before on says =
       let more = on taken before in
@@ -237,36 +250,73 @@ module _ (inputs : Inputs) (asked : AttestRequested) (given : Answered) (is : Is
           prefix = found.prefix;
           rest = found.rest;
           begins = found.begins;
-          tells = tells_on (list_spelling found.prefix) found.table found.events found.prefix (verdict_of report.report) true next found.log_is
-              (written_reading found.prefix found.begins.are) found.confirmed.genuine found.verdict_is found.next_is says;
+          tells = tells_on (list_spelling found.prefix) found.table found.events found.prefix (verdict_of report.report) true (value_at next.after)
+              found.log_is (written_reading found.prefix found.begins.are) found.confirmed.genuine found.verdict_is
+              (next_values is.log (list_spelling found.prefix) is.quote found.table found.events found.prefix next found.log_is
+              (written_reading found.prefix found.begins.are) found.next_is) says;
         },
       )
 
-  abbrev IsFound : Option Checkpoint → Type 0
-  IsFound next = IsJudged inputs (VerdictOf asked.log asked.scope asked.resume) asked.list evidence given.answer next given.unknown
+  -- A verdict on the whole list from which nobody goes on.
+  alone_tells : (next : Option Checkpoint) → IsJudged inputs (WholeVerdictOf asked.log) asked.list evidence given.answer next given.unknown
+      → OfInput inputs asked.list (λ all. (is_on_prefix given.answer ≡ false) × TellsAttested inputs asked given is all)
+  alone_tells None judged =
+      let on = judged.2 in
+      let found = on.verdict_is in
+      let registers : Values = pcr_after_log_and_list (algs_in found.table) found.events found.entries in
+      let says : Says (verdict_of on.report) false registers = said (whole_of on.report) registers on.answer_is in (
+        judged.0,
+        judged.1,
+        (
+          says.prefix_is,
+          tells_on judged.0 found.table found.events found.entries (verdict_of on.report) false registers found.log_is found.list_is found.genuine
+              found.verdict_is refl says,
+        ),
+      )
+  alone_tells (Some next) judged = absurd judged
+
+  -- What both make is the input alone, where nothing was taken before.
+  taken_none : asked.resume ≡ None → (taken : List ℕ) → IsTaken (checkpoint_of is.state) taken → taken ≡ []
+  taken_none resume taken before =
+      let none : is.state ≡ None = subst (λ (r : Option Where). IsResumedState inputs r is.state) resume is.state_is in
+      subst (λ (s : Option SavedState). IsTaken (checkpoint_of s) taken) none before
+
+  abbrev IsFound : Judgement → Option Checkpoint → Type 0
+  IsFound judgement next = IsJudged inputs judgement asked.list evidence given.answer next given.unknown
 
   pub whole_attested : asked.scope ≡ Whole → OfList inputs asked.list (checkpoint_of is.state) (TellsAttested inputs asked given is)
-  whole_attested scope taken before = by is.next is.judged
+  whole_attested scope taken before =
+      of_verdict (λ judgement. IsFound judgement is.next → OfInput inputs asked.list (λ more. TellsAttested inputs asked given is (taken ++ more)))
+      asked.saves asked.log asked.scope asked.resume
+      (λ whole resume judged. let all = alone_tells is.next judged in (all.0, all.1, rw (taken_none resume taken before) all.2.1))
+      (by is.next) is.judged
     where
       no_prefix : seeks_prefix asked.scope evidence ≡ true → ⊥
       no_prefix sought = true≢false (sym (subst (λ (s : Scope). seeks_prefix s evidence ≡ true) scope sought))
 
-      by : (next : Option Checkpoint) → IsFound next → OfInput inputs asked.list (λ more. TellsAttested inputs asked given is (taken ++ more))
+      by : (next : Option Checkpoint) → IsFound (VerdictOf asked.log asked.scope asked.resume) next
+          → OfInput inputs asked.list (λ more. TellsAttested inputs asked given is (taken ++ more))
       by None judged = absurd judged
       by (Some next) judged =
-          let Q : Verdict → Bool → Type 0 = λ verdict on_prefix. Says verdict on_prefix next → OfInput inputs asked.list (λ more. TellsAttested inputs asked given is (taken ++ more)) in
+          let Q : Verdict → Bool → Type 0 = λ verdict on_prefix. Says verdict on_prefix (value_at next.after) → OfInput inputs asked.list (λ more. TellsAttested inputs asked given is (taken ++ more)) in
           of_each inputs asked.scope asked.list evidence Tells next is.quote is.signature is.values judged.0 Q
           (λ report on says. whole_tells report next taken before on says) (λ report sought on says. absurd (no_prefix sought)) judged.1
-          (said judged.0 next judged.2)
+          (said judged.0 (value_at next.after) judged.2)
 
   pub prefix_attested : OfList inputs asked.list (checkpoint_of is.state) (TellsSomeAttested inputs asked given is)
-  prefix_attested taken before = by is.next is.judged
+  prefix_attested taken before =
+      of_verdict (λ judgement. IsFound judgement is.next → OfInput inputs asked.list (λ more. TellsSomeAttested inputs asked given is (taken ++ more)))
+      asked.saves asked.log asked.scope asked.resume
+      (λ whole resume judged.
+      let all = alone_tells is.next judged in (all.0, all.1, rw (taken_none resume taken before) (inl (all.2.0, all.2.1))))
+      (by is.next) is.judged
     where
-      by : (next : Option Checkpoint) → IsFound next → OfInput inputs asked.list (λ more. TellsSomeAttested inputs asked given is (taken ++ more))
+      by : (next : Option Checkpoint) → IsFound (VerdictOf asked.log asked.scope asked.resume) next
+          → OfInput inputs asked.list (λ more. TellsSomeAttested inputs asked given is (taken ++ more))
       by None judged = absurd judged
       by (Some next) judged =
-          let Q : Verdict → Bool → Type 0 = λ verdict on_prefix. Says verdict on_prefix next → OfInput inputs asked.list (λ more. TellsSomeAttested inputs asked given is (taken ++ more)) in
+          let Q : Verdict → Bool → Type 0 = λ verdict on_prefix. Says verdict on_prefix (value_at next.after) → OfInput inputs asked.list (λ more. TellsSomeAttested inputs asked given is (taken ++ more)) in
           of_each inputs asked.scope asked.list evidence Tells next is.quote is.signature is.values judged.0 Q
           (λ report on says. let all = whole_tells report next taken before on says in (all.0, all.1, inl (says.prefix_is, all.2)))
           (λ report sought on says. let part = prefix_tells report next taken before on says in (part.0, part.1, inr (says.prefix_is, part.2))) judged.1
-          (said judged.0 next judged.2)
+          (said judged.0 (value_at next.after) judged.2)

@@ -5,11 +5,13 @@ use Rattle.std.proofs.lemmas.Bool.{true≢false}
 use Rattle.std.proofs.lemmas.Bool.Decides.{nat_tests}
 use Rattle.std.proofs.lemmas.List.{nil_from_length}
 use Rattle.std.specs.List.{AllByRecursion}
+use Rattle.pcr_banks.specs.Names.{value_at}
+use Rattle.boot_log.specs.Names.{algs_in}
 use Rattle.ima_list.specs.Names.{BeginsWith, ListEntry}
 use Rattle.boot_verdict.specs.declared.checkpoint.Checkpoint.{Checkpoint}
 use Rattle.boot_verdict.specs.declared.report.PrefixReport.{PrefixReport}
 use Rattle.boot_verdict.specs.declared.report.Report.{Report}
-use Rattle.boot_verdict.specs.Names.{ListVerdict, Verdict, verdict_of}
+use Rattle.boot_verdict.specs.Names.{ListVerdict, Verdict, pcr_after_log_and_list, verdict_of, wide_rule}
 use Rattle.boot_verdict.proofs.ReplayLaws.{one_list}
 use Rattle.known_files.specs.declared.known.KnownFiles.{KnownFiles}
 use Rattle.known_files.specs.declared.unknown.UnknownFiles.{UnknownFiles}
@@ -17,6 +19,7 @@ use Rattle.known_files.specs.EntryFiles.{IsKnown, is_aggregate}
 use Rattle.known_files.specs.Known.{Knows}
 use Rattle.known_files.specs.Unknown.{AreUnknown, has_no_unknown, unknown_in}
 use Rattle.tpm_quotes.specs.Spelling.{TpmQuote}
+use Rattle.tpm_quotes.specs.Quoting.{Values}
 use Rattle.attestations.specs.declared.expected.ExpectedValues.{ExpectedValues}
 use Rattle.attestations.specs.declared.signature.SignatureState.{SignatureState}
 use Rattle.attestations.specs.Reports.{AttestVerdict}
@@ -26,9 +29,10 @@ use Rattle.agent_inputs.specs.Loading.{Inputs}
 use Rattle.judging.specs.declared.request.Answer.{Answer}
 use Rattle.judging.specs.declared.request.Answer.TheVariants as answers
 use Rattle.judging.specs.declared.request.Answered.{Answered}
-use Rattle.judging.specs.Answering.{AreKnownFiles, AreKnownTexts, Evidence, IsAnswerOn, IsAttestation, IsComparison, IsJudged, IsResumedState as IsState, IsTaken, IsVerdictOn, OfList, TellsUnknown, checkpoint_of, entries_taken, is_good, quoted_evidence, told_by}
-use Rattle.judging.specs.Inputs.{Where}
-use Rattle.judging.specs.Requests.{AttestRequested, Compared, Judgement, ListVerdictOf, Nothing, PositionsOf, Requires, VerdictOf, resume_of, takes_known}
+use Rattle.judging.specs.Answering.{AreKnownFiles, AreKnownTexts, Evidence, IsAnswerOn, IsAttestation, IsComparison, IsJudged, IsOnWhole, IsResumedState as IsState, IsTaken, IsVerdictOn, OfList, TellsUnknown, checkpoint_of, entries_taken, is_good, quoted_evidence, told_by, whole_of}
+use Rattle.judging.specs.Inputs.{Holds, Where}
+use Rattle.judging.specs.Requests.{AttestRequested, Compared, Judgement, ListVerdictOf, Nothing, PositionsOf, Requires, VerdictOf, WholeVerdictOf, resume_of, takes_known}
+use Rattle.judging.proofs.RequestLaws.{of_verdict}
 use Rattle.judging_laws.specs.KnownEntries.{HasKnownEntries, IsFirstKnown, TellsKnown, entries_of}
 use Rattle.judging_laws.proofs.AttestedAnswerLaws.{both_true, PrefixOn, WholeOn, of_each}
 
@@ -129,17 +133,41 @@ module _ (law : KnownLaw) (inputs : Inputs) (places : List Where) (list : Where)
       let count : (verdict_of report.report).entries ≡ length f.prefix = ap (λ (v : Verdict). v.entries) f.verdict_is in
       (more.0, more.1, known_on (taken ++ more.0) f.rest f.prefix f.begins (answer ∙ ap Some count) f.tells)
 
+  -- The same of a list from which nobody goes on, where nothing was taken before.
+  alone_known : evidence.checkpoint ≡ None → (content : List ℕ) → Holds inputs list content
+      → (on : IsOnWhole list evidence given.answer given.unknown content) → entries_of given.answer ≡ Some (verdict_of on.report).entries → Known
+  alone_known alone content held on answer taken take =
+      let found = on.verdict_is in
+      let first : entries_taken evidence.checkpoint ≡ 0 = ap entries_taken alone in
+      let empty : taken ≡ [] = subst (λ (known : Option Checkpoint). IsTaken known taken) alone take in
+      let count : (verdict_of on.report).entries ≡ length found.entries = ap (λ (v : Verdict). v.entries) found.verdict_is in (
+        content,
+        held,
+        rw (empty, first) (has_known law given has.texts has.known 0 content [] found.entries has.knows found.list_is.begins (answer ∙ ap Some count)
+            given.unknown refl none
+            (subst (λ (files : Option KnownFiles). TellsUnknown files 0 given.unknown found.entries) has.files_are on.unknown_are)),
+      )
+
+-- Nothing was taken before, where nothing is gone on from.
+no_state : (inputs : Inputs) (state : Option SavedState) → IsState inputs None state → checkpoint_of state ≡ None
+no_state inputs state is = ap checkpoint_of is
+
 -- ---- by a quote
 
 -- How many entries a report by a quote is on, where it tells a verdict.
-entries_told : (quote : TpmQuote) (signature : SignatureState) (values : ExpectedValues) (next : Checkpoint) (on : _) (answer : Answer)
-    → IsAnswerOn (Some quote) signature values on next answer
-    → entries_of answer ≡ Some (told_by quote signature values next on).verdict.entries
-entries_told quote signature values next on answer is = ap entries_of is.1 ∙ ap (λ (v : AttestVerdict). Some v.verdict.entries) is.2
+entries_told : (quote : TpmQuote) (signature : SignatureState) (values : ExpectedValues) (registers : Values) (on : _) (answer : Answer)
+    → IsAnswerOn (Some quote) signature values on registers answer
+    → entries_of answer ≡ Some (told_by quote signature values registers on).verdict.entries
+entries_told quote signature values registers on answer is = ap entries_of is.1 ∙ ap (λ (v : AttestVerdict). Some v.verdict.entries) is.2
 
 pub attested_known : KnownLaw → (inputs : Inputs) (asked : AttestRequested) (given : Answered) (is : IsAttestation inputs asked given)
     → given.is_success ≡ true → 0 < length asked.known → TellsKnown inputs asked.known asked.list (checkpoint_of is.state) given
-attested_known law inputs asked given is success some = record { texts = has.texts; texts_are = has.texts_are; entries_are = by is.next is.judged }
+attested_known law inputs asked given is success some = record {
+  texts = has.texts;
+  texts_are = has.texts_are;
+  entries_are = of_verdict (λ judgement. IsFound judgement is.next → AllKnown) asked.saves asked.log asked.scope asked.resume
+      (λ whole resume judged. alone resume is.next judged) (by is.next) is.judged;
+}
   where
     has : HasTexts inputs asked.known is.files
     has = texts_in inputs asked.known is.files some is.files_are
@@ -148,22 +176,33 @@ attested_known law inputs asked given is success some = record { texts = has.tex
     none = (both_true (has_no_unknown given.unknown) (is_good Nothing None given.answer) (sym is.success_is ∙ success)).0
 
     evidence : Evidence
-    evidence = quoted_evidence is.log is.quote is.signature is.values is.counted (checkpoint_of is.state) is.files
+    evidence = quoted_evidence (wide_rule asked.old_kernel) is.log is.quote is.signature is.values is.counted (checkpoint_of is.state) is.files
 
-    Holds : Type 0
-    Holds = OfList inputs asked.list (checkpoint_of is.state) (HasKnownEntries given has.texts (entries_taken (checkpoint_of is.state)))
+    AllKnown : Type 0
+    AllKnown = OfList inputs asked.list (checkpoint_of is.state) (HasKnownEntries given has.texts (entries_taken (checkpoint_of is.state)))
 
-    by : (next : Option Checkpoint)
-        → IsJudged inputs (VerdictOf asked.log asked.scope asked.resume) asked.list evidence given.answer next given.unknown → Holds
+    IsFound : Judgement → Option Checkpoint → Type 0
+    IsFound judgement next = IsJudged inputs judgement asked.list evidence given.answer next given.unknown
+
+    alone : asked.resume ≡ None → (next : Option Checkpoint) → IsFound (WholeVerdictOf asked.log) next → AllKnown
+    alone resume None judged =
+        let on = judged.2 in
+        let first = no_state inputs is.state (subst (λ (place : Option Where). IsState inputs place is.state) resume is.state_is) in
+        alone_known law inputs asked.known asked.list evidence given has none first judged.0 judged.1 on
+        (entries_told is.quote is.signature is.values
+        (pcr_after_log_and_list (algs_in on.verdict_is.table) on.verdict_is.events on.verdict_is.entries) (whole_of on.report) given.answer on.answer_is)
+    alone resume (Some next) judged = absurd judged
+
+    by : (next : Option Checkpoint) → IsFound (VerdictOf asked.log asked.scope asked.resume) next → AllKnown
     by None judged = absurd judged
     by (Some next) judged =
-        let Q : Verdict → Bool → Type 0 = λ verdict on_prefix. entries_of given.answer ≡ Some verdict.entries → Holds in
+        let Q : Verdict → Bool → Type 0 = λ verdict on_prefix. entries_of given.answer ≡ Some verdict.entries → AllKnown in
         of_each inputs asked.scope asked.list evidence (TellsUnknown is.files (entries_taken (checkpoint_of is.state)) given.unknown) next is.quote
         is.signature is.values judged.0 Q
         (λ report on count. whole_known law inputs asked.known asked.list evidence given has none report next count on)
         (λ report sought on count. prefix_known law inputs asked.known asked.list evidence given has none report next count on)
         judged.1
-        (entries_told is.quote is.signature is.values next judged.0 given.answer judged.2)
+        (entries_told is.quote is.signature is.values (value_at next.after) judged.0 given.answer judged.2)
 
 -- ---- by expected registers
 
@@ -172,17 +211,13 @@ plain_of_each : (inputs : Inputs) (scope : Scope) (list : Where) (evidence : Evi
     (signature : SignatureState) (values : ExpectedValues) (on : _) (answer : Answer) (Q : Type 0)
     → ((report : Report) → WholeOn inputs list evidence Says (verdict_of report) next → answer ≡ answers.Report report → Q)
     → ((report : PrefixReport) → PrefixOn inputs list evidence Says report next → answer ≡ answers.Prefix report → Q)
-    → IsVerdictOn inputs scope list evidence Says on next → IsAnswerOn None signature values on next answer → Q
+    → IsVerdictOn inputs scope list evidence Says on next → IsAnswerOn None signature values on (value_at next.after) answer → Q
 plain_of_each inputs scope list evidence Says next signature values on answer Q whole part is answered = grind (arith, whole, part)
 
 not_positions : (place : Where) (required : Requires) (known : List Where) → 0 < length known
     → takes_known (PositionsOf place) required known ≡ true → ⊥
 not_positions place required [] some takes = omega (arith, some)
 not_positions place required (other ∷ known) some takes = true≢false (sym takes)
-
--- Nothing was taken before, where nothing is gone on from.
-no_state : (inputs : Inputs) (state : Option SavedState) → IsState inputs None state → checkpoint_of state ≡ None
-no_state inputs state is = ap checkpoint_of is
 
 module _ (law : KnownLaw) (inputs : Inputs) (places : List Where) (list : Where) (evidence : Evidence) (given : Answered)
     (has : HasTexts inputs places evidence.known_files) (none : has_no_unknown given.unknown ≡ true) (alone : evidence.checkpoint ≡ None) where
@@ -230,7 +265,7 @@ comparison_known law inputs request given is success some = record {
         → Known law inputs request.known request.list is.evidence given has none
     by (VerdictOf place scope resume) None takes state judged = absurd judged
     by (VerdictOf place scope resume) (Some next) takes state judged =
-        let plain = subst (λ (quote : Option TpmQuote). IsAnswerOn quote is.evidence.signature is.evidence.values judged.0 next given.answer)
+        let plain = subst (λ (quote : Option TpmQuote). IsAnswerOn quote is.evidence.signature is.evidence.values judged.0 (value_at next.after) given.answer)
         is.evidence_is.none_quoted judged.2 in
         plain_of_each inputs scope request.list is.evidence (TellsUnknown is.evidence.known_files (entries_taken is.evidence.checkpoint) given.unknown) next
         is.evidence.signature is.evidence.values judged.0 given.answer (Known law inputs request.known request.list is.evidence given has none)
@@ -239,6 +274,15 @@ comparison_known law inputs request given is success some = record {
         (λ report on same.
         prefix_known law inputs request.known request.list is.evidence given has none report next (ap entries_of same) on)
         judged.1 plain
+    by (WholeVerdictOf place) (Some next) takes state judged = absurd judged
+    by (WholeVerdictOf place) None takes state judged =
+        let on = judged.2 in
+        let registers : Values = pcr_after_log_and_list (algs_in on.verdict_is.table) on.verdict_is.events on.verdict_is.entries in
+        let plain : given.answer ≡ answers.Report on.report =
+        subst (λ (quote : Option TpmQuote). IsAnswerOn quote is.evidence.signature is.evidence.values (whole_of on.report) registers given.answer)
+        is.evidence_is.none_quoted on.answer_is in
+        alone_known law inputs request.known request.list is.evidence given has none
+        (is.evidence_is.checkpoint_is ∙ no_state inputs is.evidence_is.state state) judged.0 judged.1 on (ap entries_of plain)
     by (PositionsOf place) next takes state judged = absurd (not_positions place request.required request.known some takes)
     by ListVerdictOf next takes state judged =
         list_known law inputs request.known request.list is.evidence given has none

@@ -1,3 +1,4 @@
 pub mod AttestedAnswerLaws
 pub mod KnownEntryLaws
 pub mod QuotedLogLaws
+pub mod ToldLogLaws

@@ -13,7 +13,8 @@ use Rattle.judging.specs.Answering.{IsAttestation, IsSignedByInputs, terms_with}
 use Rattle.judging.specs.Inputs.{Holds}
 use Rattle.judging.specs.Requests.{AttestRequested, ByCaller, ByKey, NotChecked, Signing}
 
--- The answer is the report of this attestation: by what its quote states, on so many events, from this locality, and on so many entries.
+-- The answer is the report of this attestation: by what its quote states, on so many events, from this locality, and on so many entries, with this
+-- state of the boot aggregate.
 pub record IsReportOf (answer : Answer) (attestation : Attestation) : Type 0 where
   pub report : AttestReport
   pub answer_is : answer ≡ answers.Attestation report
@@ -21,6 +22,7 @@ pub record IsReportOf (answer : Answer) (attestation : Attestation) : Type 0 whe
   pub events : report.report.events ≡ attestation.events
   pub locality : report.report.locality ≡ attestation.locality
   pub entries : report.report.entries ≡ attestation.entries
+  pub aggregate : report.report.aggregate ≡ attestation.aggregate
 
 -- The message is signed: the caller says that he has verified that; or inputs have a key, and a signature of these bytes by it.
 abbrev pub IsVouchedFor : Inputs → Signing → List ℕ → Type 0

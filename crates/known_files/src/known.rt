@@ -6,11 +6,10 @@ ghost use Rattle.known_files.specs.Listing.{IsListed, is_listed};
 ghost use Rattle.known_files.specs.EntryFiles.{IsKnown, has_aggregate_path, is_aggregate, is_known, is_known_file, told_of};
 ghost use Rattle.known_files.specs.Known.{HoldsAll, Knows, has};
 
-use crate::entry_file::file_of;
 use crate::listed::ListedFiles;
 use crate::sorted::SortedDigests;
 use boot_verdict::LIST_REGISTER;
-use ima_list::{BOOT_AGGREGATE_PATH, EntryRef};
+use ima_list::{BOOT_AGGREGATE_PATH, EntryRef, file_of};
 use pcr_banks::Digest;
 use std::alloc::Global;
 

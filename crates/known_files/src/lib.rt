@@ -5,7 +5,6 @@
 #![tactic(auto)]
 
 mod digest_line;
-mod entry_file;
 mod fault;
 mod known;
 pub mod laws;
@@ -15,7 +14,6 @@ mod text_lines;
 mod unknown;
 
 pub use digest_line::digest_on;
-pub use entry_file::file_of;
 pub use fault::KnownFault;
 pub use known::KnownFiles;
 pub use listed::ListedFiles;

@@ -5,7 +5,7 @@ use Rattle.std.specs.Bool.{Decides}
 use Rattle.std.proofs.lemmas.Bool.{eqb-true, eq-eqb}
 use Rattle.byte_fields.specs.Spelling.{IsBytes}
 use Rattle.boot_log.specs.Names.{LogEvent}
-use Rattle.event_data.specs.Names.{CommandData, VariableData, command_in, variable_in}
+use Rattle.event_data.specs.Names.{CommandData, VariableData, command_in, hashed_text, variable_in}
 use Rattle.event_data.proofs.CommandLaws.{command_finds}
 use Rattle.event_data.proofs.FormLaws.{variable_finds}
 use Rattle.measured_data.specs.declared.measured.Part.{Part}
@@ -40,7 +40,7 @@ part_told Value event fits bytes =
     )
 part_told Command event fits bytes =
     let finds = command_finds event.payload in
-    let text = λ (c : CommandData). c.text in (
+    let text = λ (c : CommandData). hashed_text c in (
       λ e.
           let here = chosen (event.register == 8) (option_map text (command_in event.payload)) bytes e in
           let found = mapped text (command_in event.payload) bytes here.1 in

@@ -6,7 +6,7 @@ use Rattle.std.specs.Option.{option_map_or}
 use Rattle.pcr_banks.specs.declared.alg.Alg.{Alg}
 use Rattle.pcr_banks.specs.Names.{digest_in, hash_of}
 use Rattle.boot_log.specs.Names.{LogEvent, is_extended, no_action}
-use Rattle.event_data.specs.Names.{CommandData, IsCommand, IsVariable, VariableData, command_in, variable_in}
+use Rattle.event_data.specs.Names.{CommandData, IsCommand, IsVariable, VariableData, command_in, hashed_text, variable_in}
 use Rattle.measured_data.specs.declared.measured.Part.{Part}
 use Rattle.measured_data.specs.declared.measured.Part.TheVariants.{Whole, Value, Command}
 
@@ -22,13 +22,14 @@ abbrev pub grub_register : ℕ
 grub_register = 8
 
 -- The bytes are this part of the event's data: all of it; or, in register 1, where it is a variable, the variable's value; or, in register
--- 8, where it is a command of GRUB, the command's text.
+-- 8, where it is a command of GRUB, what GRUB hashes of it: the command's text, in RHEL 8's GRUB mostly with its NUL. Bytes behind a form
+-- belong to all of the data alone.
 abbrev pub IsPart : Part → LogEvent → List ℕ → Type 0
 IsPart Whole event bytes = bytes ≡ event.payload
 IsPart Value event bytes =
     (event.register ≡ settings_register) × (variable : VariableData) × IsVariable event.payload variable × (bytes ≡ variable.value)
 IsPart Command event bytes =
-    (event.register ≡ grub_register) × (command : CommandData) × IsCommand event.payload command × (bytes ≡ command.text)
+    (event.register ≡ grub_register) × (command : CommandData) × IsCommand event.payload command × (bytes ≡ hashed_text command)
 
 -- The event is extended, and the algorithm's digest of it is the hash of this part of its data.
 pub record IsMeasured (alg : Alg) (event : LogEvent) (part : Part) : Type 0 where
@@ -62,7 +63,7 @@ part_in Whole event = Some event.payload
 part_in Value event =
     if event.register == settings_register then option_map (λ variable. variable.value) (variable_in event.payload) else None
 part_in Command event =
-    if event.register == grub_register then option_map (λ command. command.text) (command_in event.payload) else None
+    if event.register == grub_register then option_map hashed_text (command_in event.payload) else None
 
 -- Whether the event is extended, and the algorithm's digest of it is the hash of these bytes.
 abbrev pub has_digest_of : Alg → LogEvent → List ℕ → Bool

@@ -6,7 +6,7 @@ ghost use Rattle.boot_log.specs.Names.{log_event_of};
 ghost use Rattle.measured_data.specs.Measuring.{IsFirstPart, IsMeasured, has_digest_of, is_measured, measured_part, part_in};
 
 use boot_log::Event;
-use event_data::{read_command, read_variable};
+use event_data::{read_hashed_text, read_variable};
 use pcr_banks::{Alg, hash};
 
 /// A part of an event's data, of which its digest may be the hash.
@@ -16,7 +16,8 @@ pub enum Part {
     Whole,
     /// Of a UEFI variable in register 1 the value, without GUID and name (PC Client Platform Firmware Profile, EV_EFI_VARIABLE_BOOT).
     Value,
-    /// Of a command of GRUB in register 8 the text, without the prefix that tells its kind and the NUL at its end (GRUB's own rule).
+    /// Of a command of GRUB in register 8 the text, without the prefix that tells its kind and the NUL at its end (GRUB's own rule); with the NUL
+    /// of a command of its own in RHEL 8's GRUB ([`event_data::read_hashed_text`]).
     Command,
 }
 
@@ -41,7 +42,7 @@ pub(crate) fn part_of<'a>(part: Part, event: &Event<'a>) -> Option<&'a [u8]>
     match part {
         Part::Whole => Some(payload),
         Part::Value if event.register == SETTINGS_REGISTER => Some(read_variable(payload)?.value),
-        Part::Command if event.register == GRUB_REGISTER => Some(read_command(payload)?.text),
+        Part::Command if event.register == GRUB_REGISTER => read_hashed_text(payload),
         _ => None,
     }
 }

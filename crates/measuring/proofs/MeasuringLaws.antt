@@ -21,8 +21,9 @@ use Rattle.ima_list.specs.Names.{measured}
 use Rattle.hash_workers.proofs.ListLaws.{at_map, within_at}
 use Rattle.agent_inputs.specs.declared.fault.RunFault.{RunFault}
 use Rattle.agent_inputs.specs.declared.fault.RunFault.TheVariants.{Memory}
-use Rattle.agent_inputs.specs.Loading.{IsHashOfAll, Holds, Inputs, input_limit}
-use Rattle.measuring.specs.Measuring.{AreDone, AreNames, Contents, HasFile, HasFiles, IsFileFault, IsFileMeasure, IsInputLog, IsMeasuringFault, IsNamesFault, IsNotRecorded, IsRecordingFault, IsSetOut, IsUnhashed, failing_in, files_in}
+use Rattle.agent_inputs.specs.Opening.{IsReplayedOf}
+use Rattle.agent_inputs.specs.Loading.{IsHashOfAll, Inputs, input_limit}
+use Rattle.measuring.specs.Measuring.{AreDone, AreLog, AreNames, Contents, HasFile, HasFiles, IsFileFault, IsFileMeasure, IsMeasuringFault, IsNamesFault, IsNotRecorded, IsRecordingFault, IsSetOut, IsUnhashed, failing_in, files_in}
 use Rattle.measuring.specs.parts.{names_borrowed}
 
 -- One more job was not refused.
@@ -113,7 +114,8 @@ not_recorded held Fails log request names origin fault out (inl file) = inl file
 not_recorded held Fails log request names origin fault out (inr reason) = inr (origin, out, reason)
 
 -- Why nothing is measured of inputs that hold this log.
-module _ (inputs : Inputs) (request : Measurement) (log : List ℕ) (has : Holds inputs (Some (string_bytes request.log)) log) (is : IsInputLog log) where
+module _ (inputs : Inputs) (request : Measurement) (log : List ℕ)
+    (has : IsReplayedOf inputs (Some (string_bytes request.log.name)) request.log.hcrtm log) (is : AreLog log) where
   pub no_names : (fault : RunFault) → IsNamesFault inputs request fault ⊎ (fault ≡ Memory) → IsMeasuringFault inputs request fault
   no_names fault (inl known) = inr (log, has, inr (inl (is, inl known)))
   no_names fault (inr memory) = inr (log, has, inr (inr memory))

@@ -19,6 +19,7 @@ use Rattle.agent_plans.specs.declared.plan.NameEnd.TheVariants.{LineFeed, Nul}
 use Rattle.agent_inputs.specs.declared.fault.RunFault.{RunFault}
 use Rattle.agent_inputs.specs.declared.fault.RunFault.TheVariants as runs
 use Rattle.agent_inputs.specs.Faults.{HasLogFault, fault_of_job}
+use Rattle.agent_inputs.specs.Opening.{OfReplayed}
 use Rattle.agent_inputs.specs.Loading.{Inputs, IsInputFault, IsNotRead, IsNotUtf8, IsTooLong, OfInput, input_limit}
 use Rattle.measuring.specs.declared.file_book.Measured.{Measured}
 
@@ -121,7 +122,7 @@ pub record IsMeasuredOver (held : Contents) (log : List ℕ) (request : Measurem
 
 -- This is what a measurement of these inputs gives: that of the files of all names over the log.
 abbrev pub IsMeasured : Inputs → Measurement → Measured → Type 0
-IsMeasured inputs request given = OfInput inputs (Some (string_bytes request.log)) (λ log.
+IsMeasured inputs request given = OfReplayed inputs (Some (string_bytes request.log.name)) request.log.hcrtm (λ log.
     (names : List (List ℕ)) × AreNames inputs request names × IsMeasuredOver (files_in inputs) log request names given)
 
 -- ---- why nothing is measured
@@ -169,10 +170,6 @@ IsRecordingFault held names origin workers fault =
 abbrev pub IsNotRecorded : Contents → List ℕ → Measurement → List (List ℕ) → RunFault → Type 0
 IsNotRecorded held log request names fault = (origin : Origin) × IsSetOut log request origin × IsRecordingFault held names origin request.workers fault
 
--- The bytes are a log, and no more than an input may have.
-abbrev pub IsInputLog : List ℕ → Type 0
-IsInputLog bytes = (length bytes ≤ input_limit) × AreLog bytes
-
 -- Why there are no names: there is a text of further names, and it was not loaded, is not UTF-8, or names, with the names before, 2^32 files
 -- or more.
 abbrev pub IsNamesFault : Inputs → Measurement → RunFault → Type 0
@@ -185,8 +182,8 @@ IsNamesFault inputs request fault = MatchOption request.names ⊥ (λ more.
 -- measured; or memory ran out.
 abbrev pub IsMeasuringFault : Inputs → Measurement → RunFault → Type 0
 IsMeasuringFault inputs request fault =
-    IsInputFault inputs (Some (string_bytes request.log)) fault
-    ⊎ OfInput inputs (Some (string_bytes request.log)) (λ log.
-    HasLogFault log fault ⊎ (IsInputLog log × (IsNamesFault inputs request fault ⊎ ((names : List (List ℕ)) × AreNames inputs request names
+    IsInputFault inputs (Some (string_bytes request.log.name)) fault
+    ⊎ OfReplayed inputs (Some (string_bytes request.log.name)) request.log.hcrtm (λ log.
+    HasLogFault log fault ⊎ (AreLog log × (IsNamesFault inputs request fault ⊎ ((names : List (List ℕ)) × AreNames inputs request names
     × (IsFileFault (files_in inputs) (failing_in inputs) names fault ⊎ IsNotRecorded (files_in inputs) log request names fault))))
     ⊎ (fault ≡ runs.Memory))

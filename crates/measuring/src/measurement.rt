@@ -7,7 +7,7 @@ ghost use Rattle.measuring.specs.parts.{IsTextFor};
 use crate::file_book::{Measured, measure_over};
 use crate::name_list::names_for;
 use crate::progress::FileProgress;
-use agent_inputs::{AgentFiles, RunFault, load_input};
+use agent_inputs::{AgentFiles, RunFault, load_input, load_log};
 use agent_plans::Measurement;
 use boot_log::LogView;
 use std::alloc::Global;
@@ -43,7 +43,7 @@ pub fn measure<R: Threads + Wait + Sync, F: AgentFiles, P: FileProgress>(
     ensures fault { IfErr result (IsMeasuringFault (F.inputs files.old) request.now) }
     ensures replaced { F.replaced files.new ≡ F.replaced files.old }
 {
-    let bytes = load_input(alloc, files, Some(&request.log))?;
+    let bytes = load_log(alloc, files, Some(&request.log.name), request.log.hcrtm)?;
     let log = LogView::new(&bytes)?;
     let text = text_of(alloc, files, request)?;
     let names = names_for(alloc, request, &text)?;

@@ -1,6 +1,7 @@
 ghost use Rattle.std.specs.Prelude.{◌≡◌, ℕ, ◌<◌, ◌&&◌, ◌==◌, nat_lt, if◌then◌else◌, slice_get, option_map, Some, None, false, is_some, IsTrue, IsSome};
 ghost use Rattle.pcr_banks.specs.Hashing.{same_alg, size_of};
 ghost use Rattle.pcr_banks.specs.Digests.{alg_of, bytes_of, digest_of};
+ghost use Rattle.pcr_banks.specs.Sets.{has_alg};
 ghost use Rattle.pcr_banks.specs.declared.alg.Alg.{Alg};
 ghost use Rattle.pcr_banks.specs.Registers.{register_count, IsReset, Extends, ExtendsBank, extended_value, is_active, value_at, in_bank, reset_bytes};
 
@@ -96,6 +97,19 @@ impl Banks {
         self
     }
 
+    /// The banks of these algorithms, without the others: an extend then costs none of their hashes.
+    pub fn keep(self, algs: AlgSet) -> Self
+        ensures active { (a : Alg) → is_active result a ≡ (has_alg algs a && is_active self a) }
+        ensures values { (a : Alg) (r : ℕ) → value_at result a r ≡ (if has_alg algs a then value_at self a r else None) }
+    {
+        Banks {
+            sha1: keep_bank(self.sha1, algs.has(Alg::Sha1)),
+            sha256: keep_bank(self.sha256, algs.has(Alg::Sha256)),
+            sha384: keep_bank(self.sha384, algs.has(Alg::Sha384)),
+            sha512: keep_bank(self.sha512, algs.has(Alg::Sha512)),
+        }
+    }
+
     /// Extends a register in each active bank for which there is a digest: the new value is the hash of the old value followed by
     /// the digest (TPM 2.0 Library, part 1, 'Extend of a PCR'). Nothing else changes.
     pub fn extend(&mut self, register: u32, digests: &PerBank)
@@ -122,6 +136,14 @@ fn reset_bank<const N: usize>(active: bool, locality: u8) -> Option<Bank<N>>
     } else {
         None
     }
+}
+
+// The bank, if it is kept.
+fn keep_bank<const N: usize>(bank: Option<Bank<N>>, kept: bool) -> Option<Bank<N>>
+    ensures active { is_some result ≡ (kept && is_some bank.entry) }
+    ensures values { (r : ℕ) → in_bank result r ≡ (if kept then in_bank bank.entry r else None) }
+{
+    if kept { bank } else { None }
 }
 
 // The registers of a bank after a startup from the locality.

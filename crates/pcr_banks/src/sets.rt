@@ -42,6 +42,18 @@ impl AlgSet {
         self
     }
 
+    /// The algorithms of both sets.
+    pub fn union(self, other: AlgSet) -> Self
+        ensures { (a : Alg) → has_alg result a ≡ (has_alg self a || has_alg other a) }
+    {
+        AlgSet {
+            sha1: self.sha1 || other.sha1,
+            sha256: self.sha256 || other.sha256,
+            sha384: self.sha384 || other.sha384,
+            sha512: self.sha512 || other.sha512,
+        }
+    }
+
     /// Whether the set has the algorithm.
     pub fn has(self, alg: Alg) -> bool
         ensures { result ≡ has_alg self alg }

@@ -18,6 +18,8 @@ said_of kinds.NotHex = (codes "refused: not hexadecimal", codes "not_hexadecimal
 said_of kinds.Log = (codes "refused: log fault ", codes "log", 2)
 said_of kinds.List = (codes "refused: list fault ", codes "list", 2)
 said_of kinds.Replay = (codes "refused: replay fault ", codes "replay", 2)
+said_of kinds.ListText = (codes "refused: text list fault ", codes "text_list", 2)
+said_of kinds.LogForm = (codes "refused: log form fault ", codes "log_form", 2)
 said_of kinds.Expect = (codes "refused: expected fault ", codes "expected", 2)
 said_of kinds.Quote = (codes "refused: quote fault ", codes "quote", 4)
 said_of kinds.Signature = (codes "refused: signature fault ", codes "signature", 4)
@@ -37,6 +39,8 @@ said_of kinds.Memory = (codes "failed: memory", codes "memory", 3)
 abbrev pub place_words : FaultKind → Option ℕ → List ℕ
 place_words kind None = []
 place_words kinds.Log (Some event) = codes " at event "
+place_words kinds.LogForm (Some event) = codes " at event "
+place_words kinds.ListText (Some line) = codes " at line "
 place_words kinds.Expect (Some line) = codes " at line "
 place_words kinds.Known (Some line) = codes " at line "
 place_words kinds.Outcome (Some number) = codes " book fault "
@@ -82,9 +86,10 @@ fault_status fault = (said_of (fault_head fault).kind).2
 -- Whether the place of a fault of this kind is an event of a log.
 abbrev pub names_event : FaultKind → Bool
 names_event kinds.Log = true
+names_event kinds.LogForm = true
 names_event kind = false
 
--- Whether it is an entry of a list. The line of expected registers, or of known files, stands in the message alone.
+-- Whether it is an entry of a list. The line of expected registers, of known files or of a list as text stands in the message alone.
 abbrev pub names_entry : FaultKind → Bool
 names_entry kinds.List = true
 names_entry kinds.Replay = true

@@ -95,7 +95,7 @@ fn show_if(is_told: bool, key: &str, number: Option<usize>, out: &mut CellWriter
 fn names_event(kind: FaultKind) -> bool
     ensures { result ≡ names_event kind }
 {
-    matches!(kind, FaultKind::Log)
+    matches!(kind, FaultKind::Log | FaultKind::LogForm)
 }
 
 // Whether it is an entry of a list.

@@ -9,7 +9,7 @@ use measuring::FileProgress;
 use std::alloc::Global;
 use std::io;
 
-/// What came of a run that failed, or of an answer: something differs, nobody looked at a signature, or nothing was compared.
+/// What came of a run that failed, or of an answer: something differs, nobody looked at a signature, all is well, or nothing was compared.
 #[derive(Clone, Copy)]
 pub enum Failure<'a> {
     /// The line of a fault of a task.
@@ -41,6 +41,11 @@ pub enum Failure<'a> {
         /// What was to be done.
         task: &'a Task,
     },
+    /// The answer to a task: all is well.
+    Matches {
+        /// What was to be done.
+        task: &'a Task,
+    },
     /// The answer to a task: it is a match, and no register was compared.
     NothingCompared,
     /// A part of the output, or nothing.
@@ -48,7 +53,8 @@ pub enum Failure<'a> {
 }
 
 impl Failure<'_> {
-    /// Whether it is said: standard error is a terminal, or the arguments ask for it. That nothing was compared is said in any case.
+    /// Whether it is said: standard error is a terminal, or the arguments ask for it. That nothing was compared is said in any case, and what a match
+    /// is worth on a terminal alone.
     pub fn is_said(self, is_terminal: bool) -> bool
         ensures { result ≡ is_said is_terminal self.entry }
     {
@@ -63,7 +69,10 @@ impl Failure<'_> {
             Failure::Fault { task, .. } | Failure::Differs { task } | Failure::Unsigned { task } =>
                 is_explained(task),
             Failure::NothingCompared => true,
-            Failure::Refused { .. } | Failure::Arguments { .. } | Failure::Output => false,
+            Failure::Matches { .. }
+            | Failure::Refused { .. }
+            | Failure::Arguments { .. }
+            | Failure::Output => false,
         }
     }
 }
@@ -79,12 +88,16 @@ fn is_explained(task: &Task) -> bool
     }
 }
 
-/// Receives the progress of a measurement, and why the run failed, or something differs, was not looked at or was not compared.
+/// Receives the progress of a run, and why it failed, or something differs, was not looked at or was not compared.
 pub trait Progress: FileProgress {
     /// Standard input is about to be read.
     fn waits(&self);
 
-    /// The run failed, or something differs, was not looked at or was not compared. The fault's line, if there is one, or the answer was sent before.
+    /// So many bytes of padding behind the last event of a log were left out. None are nothing to tell.
+    fn cuts(&self, bytes: usize);
+
+    /// The run failed, or something differs, was not looked at or was not compared, or all is well. The fault's line, if there is one, or the answer
+    /// was sent before.
     fn explain(&self, alloc: Global, failure: Failure<'_>);
 }
 
@@ -100,6 +113,8 @@ impl FileProgress for NoProgress {
 
 impl Progress for NoProgress {
     fn waits(&self) {}
+
+    fn cuts(&self, _bytes: usize) {}
 
     fn explain(&self, _alloc: Global, _failure: Failure<'_>) {}
 }

@@ -4,7 +4,7 @@ use Rattle.std.specs.Prelude.{IfErr, slice_index}
 use Rattle.std.proofs.lemmas.Bool.{true≢false}
 use Rattle.std.proofs.lemmas.Bool.Decides.{Decides-eqb}
 use Rattle.std.proofs.lemmas.Slice.Eq.{starts_is}
-use Rattle.tpm_keys.specs.Spelling.{KeyArea, KeyNumbers, RsaNumbers, EccNumbers, area_spelling}
+use Rattle.tpm_keys.specs.Spelling.{Holds, KeyArea, KeyNumbers, RsaNumbers, EccNumbers, area_spelling}
 use Rattle.tpm_keys.specs.KeyInfo.{key_pem}
 use Rattle.signed_messages.specs.declared.check_fault.CheckFault.{CheckFault}
 use Rattle.signed_messages.specs.declared.check_fault.CheckFault.TheVariants as faults
@@ -52,12 +52,19 @@ area_first : (area : KeyArea) (numbers : KeyNumbers) → area.numbers ≡ number
 area_first area (RsaNumbers e m) is = rw is refl
 area_first area (EccNumbers c x y) is = rw is refl
 
--- No public area begins as PEM does.
-no_area : (bytes : List ℕ) (key : MessageKey) → is_pem bytes ≡ true → IsKeyArea bytes key → ⊥
-no_area bytes key pem is =
+-- No public area begins as PEM does, behind its size or bare.
+not_held : (bytes : List ℕ) (area : KeyArea) → is_pem bytes ≡ true → Holds bytes (area_spelling area) → ⊥
+not_held bytes area pem (inl (fits, parts)) =
     let dash : slice_index bytes 2 ≡ 0x2D = ap (λ (xs : List ℕ). slice_index xs 2) (begins bytes pem) in
-    let zero_byte : slice_index bytes 2 ≡ 0 = ap (λ (xs : List ℕ). slice_index xs 2) is.is.spelled ∙ area_first is.area is.area.numbers refl in
+    let zero_byte : slice_index bytes 2 ≡ 0 = ap (λ (xs : List ℕ). slice_index xs 2) parts ∙ area_first area area.numbers refl in
     absurd (omega (arith, dash, zero_byte))
+not_held bytes area pem (inr parts) =
+    let dash : slice_index bytes 0 ≡ 0x2D = ap (λ (xs : List ℕ). slice_index xs 0) (begins bytes pem) in
+    let zero_byte : slice_index bytes 0 ≡ 0 = ap (λ (xs : List ℕ). slice_index xs 0) parts ∙ area_first area area.numbers refl in
+    absurd (omega (arith, dash, zero_byte))
+
+no_area : (bytes : List ℕ) (key : MessageKey) → is_pem bytes ≡ true → IsKeyArea bytes key → ⊥
+no_area bytes key pem is = not_held bytes is.area pem is.is.spelled
 
 pem_begins : (numbers : KeyNumbers) → is_pem (key_pem numbers) ≡ true
 pem_begins numbers = refl

@@ -18,8 +18,8 @@ use tpm_keys::{Purpose, read_key};
 // With what PEM begins.
 const PEM: &[u8] = b"-----BEGIN";
 
-/// Checks that the bytes are a signature of the message by the key that `key` states: the public area of an attestation key, as `tpm2_readpublic -o`
-/// writes it, or the PEM that `ima-agent key --print pem` writes of one.
+/// Checks that the bytes are a signature of the message by the key that `key` states: the public area of an attestation key, as
+/// `tpm2_readpublic -o` writes it or without its size, or the PEM that `ima-agent key --print pem` writes of one.
 ///
 /// A public area is looked at for what it must have, and the signature is by its scheme, with its hash. PEM states numbers alone: pass it only for a
 /// key whose public area was checked before. A text that begins as PEM does is read as PEM. The key is looked at first, then the signature, as

@@ -16,6 +16,21 @@ pub const LOG: &[u8] = b"\x00\x00\x00\x00\x03\x00\x00\x00\
 pub const LOG_LINE: &[u8] =
     b"sha256 4 f5a5fd42d16a20302798ef6ed309979b43003d2320d9f0e8ea9831a92759fb4b\n";
 
+/// A log whose only event is that of an H-CRTM: type EV_EFI_HCRTM_EVENT, register 0, a digest of zero bytes and the five bytes `HCRTM`.
+pub const HCRTM_LOG: &[u8] = b"\x00\x00\x00\x00\x03\x00\x00\x00\
+    \x00\x00\x00\x00\x00\x00\x00\x00\x00\x00\x00\x00\x00\x00\x00\x00\x00\x00\x00\x00\
+    \x21\x00\x00\x00\
+    Spec ID Event03\x00\
+    \x00\x00\x00\x00\x00\x02\x00\x02\x01\x00\x00\x00\x0b\x00\x20\x00\x00\
+    \x00\x00\x00\x00\x10\x00\x00\x80\x01\x00\x00\x00\x0b\x00\
+    \x00\x00\x00\x00\x00\x00\x00\x00\x00\x00\x00\x00\x00\x00\x00\x00\
+    \x00\x00\x00\x00\x00\x00\x00\x00\x00\x00\x00\x00\x00\x00\x00\x00\
+    \x05\x00\x00\x00HCRTM";
+
+/// The line of PCR 0 after it, if PCR 0 starts with a last byte of 4: the SHA-256 of 31 zero bytes, a byte 4 and 32 zero bytes.
+pub const HCRTM_LINE: &[u8] =
+    b"sha256 0 342b4f26d63bd11d5aa83a658b40191d6701cef38d0f4001116b4358facf2b58\n";
+
 /// The lines of the log's events.
 pub const EVENT_LINES: &[u8] = b"algorithms sha256:32\n\
     1 4 EV_SEPARATOR sha256:0000000000000000000000000000000000000000000000000000000000000000 4\n";

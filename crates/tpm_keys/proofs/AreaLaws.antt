@@ -1,14 +1,14 @@
 -- Public areas: what is read is what was spelled, and what is spelled is read.
-use Rattle.std.proofs.Common.{◌≡◌, ℕ, ◌^◌, ◌<◌, Bool, true, false, eqb, List, [], ◌∷◌, ◌++◌, length, Option, Some, None, Result, Ok, Err, refl, sym, subst, ap, ◌∙◌, append_assoc, inl, inr, lit<}
-use Rattle.std.specs.Prelude.{ok_or, is_some, IfOk, IfErr}
+use Rattle.std.proofs.Common.{◌≡◌, ℕ, ◌^◌, ◌<◌, Bool, true, false, cond, eqb, not, List, [], ◌∷◌, ◌++◌, length, Option, Some, None, Result, Ok, Err, refl, sym, subst, ap, ◌∙◌, append_assoc, inl, inr, lit<}
+use Rattle.std.specs.Prelude.{ok_or, is_ok, is_some, IfOk, IfErr}
 use Rattle.std.specs.Int.{w16, w32, to_be_bytes}
 use Rattle.std.specs.Result.{result_err}
 use Rattle.std.proofs.lemmas.Bool.Decides.{eqb_tells}
 use Rattle.std.proofs.lemmas.List.{append-nil}
 use Rattle.byte_fields.specs.Reading.{◌>>=◌, Reads}
-use Rattle.byte_fields.specs.Formats.{Format, IsRead, either, whole}
+use Rattle.byte_fields.specs.Formats.{Format, IsRead, either, seen, whole}
 use Rattle.byte_fields.proofs.Steps.{IsBytes, bind_ok, ok_is, ok_or_ok}
-use Rattle.byte_fields.proofs.FormatLaws.{Exact, IsBytes-behind, big16_exact, big32_exact, either_exact, followed_exact, mapped_exact, viewed_exact, whole_again, whole_takes}
+use Rattle.byte_fields.proofs.FormatLaws.{Exact, IsBytes-behind, again, big16_exact, big32_exact, either_exact, followed_exact, mapped_exact, viewed_exact, whole_again, whole_takes}
 use Rattle.pcr_banks.specs.declared.alg.Alg.{Alg}
 use Rattle.pcr_banks.specs.declared.alg.Alg.TheVariants.{Sha1, Sha256, Sha384, Sha512}
 use Rattle.pcr_banks.specs.Names.{all_algs, tpm_id_of}
@@ -26,8 +26,8 @@ use Rattle.tpm_keys.specs.declared.kinds.SchemeKind.TheVariants.{Unset, Rsaes, R
 use Rattle.tpm_keys.specs.declared.kinds.Purpose.{Purpose}
 use Rattle.tpm_keys.specs.Purposes.{lack, sound, sound_by}
 use Rattle.tpm_keys.specs.Kinds.{has_hash, scheme_id, scheme_with, schemes_of, type_id, type_with}
-use Rattle.tpm_keys.specs.Spelling.{IsCipher, IsPublicArea, IsScheme, KeyArea, area_of, area_spelling, cipher_spelling, hash_spelling, null_id, numbers_spelling, scheme_spelling, type_of}
-use Rattle.tpm_keys.specs.Reading.{aes, aes_id, area, area_fault, area_in, cipher, hash, head, is_aes, is_aes_with, key_fault, key_in, key_type, nothing, scheme, scheme_kind, sized, some_hash}
+use Rattle.tpm_keys.specs.Spelling.{Holds, IsCipher, IsPublicArea, IsScheme, KeyArea, area_of, area_spelling, cipher_spelling, hash_spelling, null_id, numbers_spelling, scheme_spelling, type_of}
+use Rattle.tpm_keys.specs.Reading.{aes, aes_id, area, area_fault, area_in, bare_area, cipher, has_type, hash, head, is_aes, is_aes_with, is_bare, is_one_type, key_fault, key_in, key_type, nothing, scheme, scheme_kind, sized, sized_area, some_hash}
 use Rattle.tpm_keys.proofs.TableLaws.{found_id}
 use Rattle.tpm_keys.proofs.MaterialLaws.{AnyFault, any_refusal, are_numbers, is_sized, numbers_are, numbers_exact, numbers_spelled, sized_fits, sized_is_exact, sized_spelled, type_told}
 
@@ -252,7 +252,7 @@ scheme_of : (a : KeyArea) → area.Is a → IsScheme (type_of a.numbers) a.schem
 unfolding area
 scheme_of a is = scheme_fits (type_of a.numbers) a.scheme is.0.1.1.1.0
 
--- What is read from the bytes in the frame is spelled by them.
+-- What is read from all of the bytes is spelled by them.
 pub framed_spelled : (framed : List ℕ) (a : KeyArea) → IsBytes framed → whole Trailing area framed ≡ Ok a → area.Is a × (framed ≡ area_spelling a)
 framed_spelled framed a fits e =
     let taken = whole_takes Trailing area_exact framed a fits e in
@@ -261,28 +261,40 @@ framed_spelled framed a fits e =
 framed_fits : (bytes framed : List ℕ) → bytes ≡ sized16 framed → IsBytes bytes → IsBytes framed
 framed_fits bytes framed parts fits = IsBytes-behind bytes (to_be_bytes w16 (length framed)) framed parts fits
 
-is_public : (bytes framed : List ℕ) (a : KeyArea) → length framed < 2 ^ 16 → bytes ≡ sized16 framed → area.Is a → framed ≡ area_spelling a
-    → IsPublicArea bytes a
+is_public : (bytes : List ℕ) (a : KeyArea) → area.Is a → Holds bytes (area_spelling a) → IsPublicArea bytes a
 unfolding area head
-is_public bytes framed a size parts is same = record {
+is_public bytes a is held = record {
   attributes_fit = is.0.1.0.1.0;
   policy_fits = sized_fits a.policy is.0.1.0.1.1;
   cipher_is = cipher_fits a.cipher is.0.1.1.0;
   scheme_is = scheme_fits (type_of a.numbers) a.scheme is.0.1.1.1.0;
   numbers_are = numbers_are a.numbers is.0.1.1.1.1;
-  area_fits = subst (λ (xs : List ℕ). length xs < 2 ^ 16) same size;
-  spelled = subst (λ (xs : List ℕ). bytes ≡ sized16 xs) same parts;
+  spelled = held;
 }
 
-pub area_is : (bytes : List ℕ) (a : KeyArea) → IsBytes bytes → area_in bytes ≡ Ok a → IsPublicArea bytes a
-unfolding area_in
-area_is bytes a fits e =
-    let step = bind_ok (whole Trailing sized bytes) (λ framed. whole Trailing area framed) a e in
+bare_is : (bytes : List ℕ) (a : KeyArea) → IsBytes bytes → bare_area bytes ≡ Ok a → IsPublicArea bytes a
+bare_is bytes a fits e = let inner = framed_spelled bytes a fits e in is_public bytes a inner.0 (inr inner.1)
+
+sized_is : (bytes : List ℕ) (a : KeyArea) → IsBytes bytes → sized_area bytes ≡ Ok a → IsPublicArea bytes a
+unfolding sized_area
+sized_is bytes a fits e =
+    let step = bind_ok (whole Trailing sized bytes) (λ framed. bare_area framed) a e in
     let framed = step.0 in
     let frame = whole_takes Trailing sized_is_exact bytes framed fits step.1 in
     let parts = frame.1 ∙ sized_spelled framed in
     let inner = framed_spelled framed a (framed_fits bytes framed parts fits) step.2 in
-    is_public bytes framed a (sized_fits framed frame.0) parts inner.0 inner.1
+    is_public bytes a inner.0 (inl (
+      subst (λ (xs : List ℕ). length xs < 2 ^ 16) inner.1 (sized_fits framed frame.0),
+      subst (λ (xs : List ℕ). bytes ≡ sized16 xs) inner.1 parts,
+    ))
+
+either_is : (b : Bool) (bytes : List ℕ) (a : KeyArea) → IsBytes bytes → cond b (bare_area bytes) (sized_area bytes) ≡ Ok a → IsPublicArea bytes a
+either_is true bytes a fits e = bare_is bytes a fits e
+either_is false bytes a fits e = sized_is bytes a fits e
+
+pub area_is : (bytes : List ℕ) (a : KeyArea) → IsBytes bytes → area_in bytes ≡ Ok a → IsPublicArea bytes a
+unfolding area_in
+area_is bytes a fits e = either_is (is_bare bytes) bytes a fits e
 
 area_is_spelled : (a : KeyArea) (bytes : List ℕ) → IsPublicArea bytes a → area.Is a
 unfolding area head
@@ -297,13 +309,91 @@ area_is_spelled a bytes is = (
   refl,
 )
 
-pub is_area : (bytes : List ℕ) (a : KeyArea) → IsPublicArea bytes a → area_in bytes ≡ Ok a
-unfolding area_in
-is_area bytes a is =
+-- ---- behind a size, or bare
+
+-- What is read of a type is what its number gives.
+number_read : (id : ℕ) (rest : List ℕ) → id < 2 ^ 16
+    → key_type.at (to_be_bytes w16 id ++ rest) ≡ (ok_or (type_with id) OtherType >>= λ t. Ok (t, rest))
+unfolding key_type
+number_read id rest lt =
+    ap (λ (r : Result (ℕ × List ℕ) KeyFault). seen (λ (n : ℕ). ok_or (type_with n) OtherType) r)
+    (again (big16_exact {P = AnyFault} Truncated tt) id rest lt)
+
+type_read : (t : KeyType) (rest : List ℕ) → key_type.at (to_be_bytes w16 (type_id t) ++ rest) ≡ Ok (t, rest)
+unfolding key_type
+type_read t rest = again key_type_exact t rest (is_key_type t)
+
+told_by : (o : Option KeyType) (rest : List ℕ) → is_ok {T = KeyType × List ℕ} (ok_or o OtherType >>= λ t. Ok (t, rest)) ≡ is_some o
+told_by (Some t) rest = refl
+told_by None rest = refl
+
+-- The number of a hash is no type's.
+hash_fits : (alg : Alg) → tpm_id_of alg < 2 ^ 16
+hash_fits Sha1 = lit< tt
+hash_fits Sha256 = lit< tt
+hash_fits Sha384 = lit< tt
+hash_fits Sha512 = lit< tt
+
+hash_of_none : (alg : Alg) → is_some (type_with (tpm_id_of alg)) ≡ false
+hash_of_none Sha1 = refl
+hash_of_none Sha256 = refl
+hash_of_none Sha384 = refl
+hash_of_none Sha512 = refl
+
+no_type : (alg : Alg) (rest : List ℕ) → has_type (to_be_bytes w16 (tpm_id_of alg) ++ rest) ≡ false
+no_type alg rest =
+    ap (λ (r : Result (KeyType × List ℕ) KeyFault). is_ok r) (number_read (tpm_id_of alg) rest (hash_fits alg))
+    ∙ told_by (type_with (tpm_id_of alg)) rest ∙ hash_of_none alg
+
+-- What an area has after its type, and after the hash of its name.
+abbrev after_hash : KeyArea → List ℕ
+after_hash a =
+    to_be_bytes w32 a.attributes ++ (sized16 a.policy ++ (cipher_spelling a.cipher ++ (scheme_spelling a.scheme ++ numbers_spelling a.numbers)))
+
+abbrev after_type : KeyArea → List ℕ
+after_type a = to_be_bytes w16 (tpm_id_of a.name_alg) ++ after_hash a
+
+area_has_type : (a : KeyArea) → has_type (area_spelling a) ≡ true
+area_has_type a = ap (λ (r : Result (KeyType × List ℕ) KeyFault). is_ok r) (type_read (type_of a.numbers) (after_type a))
+
+bare_is_bare : (a : KeyArea) → is_bare (area_spelling a) ≡ true
+bare_is_bare a =
+    ap (λ (r : Result (KeyType × List ℕ) KeyFault). is_one_type r) (type_read (type_of a.numbers) (after_type a))
+    ∙ ap not (no_type a.name_alg (after_hash a))
+
+one_after : (o : Option KeyType) (rest : List ℕ) → has_type rest ≡ true → is_one_type (ok_or o OtherType >>= λ t. Ok (t, rest)) ≡ false
+one_after (Some t) rest e = ap not e
+one_after None rest e = refl
+
+sized_is_not_bare : (spelling : List ℕ) → length spelling < 2 ^ 16 → has_type spelling ≡ true → is_bare (sized16 spelling) ≡ false
+sized_is_not_bare spelling lt e =
+    ap (λ (r : Result (KeyType × List ℕ) KeyFault). is_one_type r) (number_read (length spelling) spelling lt)
+    ∙ one_after (type_with (length spelling)) spelling e
+
+is_bare_area : (bytes : List ℕ) (a : KeyArea) → IsPublicArea bytes a → bytes ≡ area_spelling a → bare_area bytes ≡ Ok a
+is_bare_area bytes a is parts =
+    whole_again Trailing area_exact bytes a (area_is_spelled a bytes is) (parts ∙ sym (spelled a is.scheme_is.hash_belongs))
+
+is_sized_area : (bytes : List ℕ) (a : KeyArea) → IsPublicArea bytes a → length (area_spelling a) < 2 ^ 16 → bytes ≡ sized16 (area_spelling a)
+    → sized_area bytes ≡ Ok a
+unfolding sized_area
+is_sized_area bytes a is lt parts =
     let framed = area_spelling a in
-    let frame = whole_again Trailing sized_is_exact bytes framed (is_sized framed is.area_fits) (is.spelled ∙ sym (sized_spelled framed)) in
+    let frame = whole_again Trailing sized_is_exact bytes framed (is_sized framed lt) (parts ∙ sym (sized_spelled framed)) in
     let inner = whole_again Trailing area_exact framed a (area_is_spelled a bytes is) (sym (spelled a is.scheme_is.hash_belongs)) in
     rw (frame, inner) refl
+
+is_held : (bytes : List ℕ) (a : KeyArea) → IsPublicArea bytes a → Holds bytes (area_spelling a) → area_in bytes ≡ Ok a
+unfolding area_in
+is_held bytes a is (inl (lt, parts)) =
+    let other = ap (λ (xs : List ℕ). is_bare xs) parts ∙ sized_is_not_bare (area_spelling a) lt (area_has_type a) in
+    ap (λ (b : Bool). cond b (bare_area bytes) (sized_area bytes)) other ∙ is_sized_area bytes a is lt parts
+is_held bytes a is (inr parts) =
+    let bare = ap (λ (xs : List ℕ). is_bare xs) parts ∙ bare_is_bare a in
+    ap (λ (b : Bool). cond b (bare_area bytes) (sized_area bytes)) bare ∙ is_bare_area bytes a is parts
+
+pub is_area : (bytes : List ℕ) (a : KeyArea) → IsPublicArea bytes a → area_in bytes ≡ Ok a
+is_area bytes a is = is_held bytes a is is.spelled
 
 -- A public area has one reading.
 pub one_reading : (bytes : List ℕ) (first second : KeyArea) → IsPublicArea bytes first → IsPublicArea bytes second → first ≡ second
@@ -311,14 +401,15 @@ one_reading bytes first second is also = ok_is first second (sym (is_area bytes 
 
 -- ---- what the reader gives
 
-spelled_so : (framed : List ℕ) (r : Result PublicArea KeyFault) → IsBytes framed → Reads area_of r (whole Trailing area framed)
+-- The bytes of a bare area are those that spell it.
+pub spelled_so : (framed : List ℕ) (r : Result PublicArea KeyFault) → IsBytes framed → Reads area_of r (bare_area framed)
     → IfOk r (λ a. a.spelled.now ≡ framed) → IfOk r (λ a. a.spelled.now ≡ area_spelling (area_of a))
 spelled_so framed (Ok a) fits e same = same ∙ (framed_spelled framed (area_of a) fits e).1
 spelled_so framed (Err fault) fits e same = tt
 
 -- The bytes in the frame are those that spell the area.
 pub framed_so : (bytes framed after : List ℕ) (r : Result PublicArea KeyFault) → IsBytes bytes → sized.at bytes ≡ Ok (framed, after)
-    → eqb (length after) 0 ≡ true → Reads area_of r (whole Trailing area framed) → IfOk r (λ a. a.spelled.now ≡ framed)
+    → eqb (length after) 0 ≡ true → Reads area_of r (bare_area framed) → IfOk r (λ a. a.spelled.now ≡ framed)
     → IfOk r (λ a. a.spelled.now ≡ area_spelling (area_of a))
 framed_so bytes framed after r fits e empty =
     let frame = whole_takes Trailing sized_is_exact bytes framed fits (rw (e, empty) refl) in

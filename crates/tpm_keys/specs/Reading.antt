@@ -1,5 +1,5 @@
--- Reading a public area: first its frame, then the area from left to right, up to the first fault.
-use Rattle.std.specs.Prelude.{◌≡◌, ℕ, ◌*◌, not, Bool, true, false, ◌&&◌, ◌||◌, if◌then◌else◌, Some, None, ◌==◌, nat_lt, nat_le, List, [], length, slice_index, Option, is_some, unwrap_or, Result, Ok, ok_or}
+-- Reading a public area: first its frame, if it has one, then the area from left to right, up to the first fault.
+use Rattle.std.specs.Prelude.{◌≡◌, ℕ, ◌*◌, not, Bool, true, false, ◌&&◌, ◌||◌, if◌then◌else◌, Some, None, ◌==◌, nat_lt, nat_le, List, [], length, slice_index, Option, is_some, unwrap_or, Result, Ok, Err, ok_or, is_ok}
 use Rattle.std.specs.Int.{w16, w32}
 use Rattle.std.specs.Option.{option_map_or}
 use Rattle.std.specs.Result.{result_err}
@@ -129,9 +129,31 @@ area =
     (λ a. (type_of a.numbers, ((a.name_alg, (a.attributes, a.policy)), (a.cipher, (a.scheme, a.numbers)))))
     (key_type followed_by λ t. head followed_by λ h. cipher followed_by λ c. scheme t followed_by λ s. numbers t)
 
+-- Whether a type is at the start of the bytes.
+abbrev pub has_type : List ℕ → Bool
+has_type bytes = is_ok (key_type.at bytes)
+
+-- Whether a type was read, and no other follows it.
+abbrev pub is_one_type : Result (KeyType × List ℕ) KeyFault → Bool
+is_one_type (Ok x) = not (has_type x.1)
+is_one_type (Err fault) = false
+
+-- Whether an area is bare: a type comes first, and none after it. Behind a size the type is the second number, where a bare area has that of a
+-- hash, which is no type's: so a size that is also the number of a type is a size.
+abbrev pub is_bare : List ℕ → Bool
+is_bare bytes = is_one_type (key_type.at bytes)
+
+-- What all of the bytes state as a bare area, or their first fault.
+abbrev pub bare_area : List ℕ → Result KeyArea KeyFault
+bare_area bytes = whole Trailing area bytes
+
+-- What they state as an area behind its size.
+unfoldable pub sized_area : List ℕ → Result KeyArea KeyFault
+sized_area bytes = whole Trailing sized bytes >>= λ framed. bare_area framed
+
 -- What all of the bytes state, or their first fault.
 unfoldable pub area_in : List ℕ → Result KeyArea KeyFault
-area_in bytes = whole Trailing sized bytes >>= λ framed. whole Trailing area framed
+area_in bytes = if is_bare bytes then bare_area bytes else sized_area bytes
 
 abbrev pub area_fault : List ℕ → Option KeyFault
 area_fault bytes = result_err (area_in bytes)

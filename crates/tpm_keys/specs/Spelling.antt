@@ -86,15 +86,19 @@ area_spelling area =
     to_be_bytes w16 (type_id (type_of area.numbers)) ++ (to_be_bytes w16 (tpm_id_of area.name_alg) ++ (to_be_bytes w32 area.attributes ++
     (sized16 area.policy ++ (cipher_spelling area.cipher ++ (scheme_spelling area.scheme ++ numbers_spelling area.numbers)))))
 
--- The bytes are a public area that states this, with its size before it, and nothing else.
+-- The bytes are what is spelled so: with its size before it (part 2, TPM2B_PUBLIC), as tpm2-tools write an area; or bare (TPMT_PUBLIC), as go-tpm
+-- keeps one.
+abbrev pub Holds : List ℕ → List ℕ → Type 0
+Holds bytes spelling = ((length spelling < 2 ^ 16) × (bytes ≡ sized16 spelling)) ⊎ (bytes ≡ spelling)
+
+-- The bytes are a public area that states this, with its size or bare, and nothing else.
 pub record IsPublicArea (bytes : List ℕ) (area : KeyArea) : Type 0 where
   pub attributes_fit : area.attributes < 2 ^ 32
   pub policy_fits : length area.policy < 2 ^ 16
   pub cipher_is : IsCipher area.cipher
   pub scheme_is : IsScheme (type_of area.numbers) area.scheme
   pub numbers_are : AreNumbers area.numbers
-  pub area_fits : length (area_spelling area) < 2 ^ 16
-  pub spelled : bytes ≡ sized16 (area_spelling area)
+  pub spelled : Holds bytes (area_spelling area)
 
 -- ---- what contracts see of the code's values
 

@@ -1,11 +1,10 @@
 //! The public area of a key.
 
 ghost use Rattle.std.specs.Prelude.{◌≡◌, Some, Ok, IfOk, IfErr};
-ghost use Rattle.byte_fields.specs.Formats.{either, whole};
+ghost use Rattle.byte_fields.specs.Formats.{either};
 ghost use Rattle.byte_fields.specs.Reading.{Reads};
-ghost use Rattle.tpm_keys.specs.declared.fault.KeyFault.TheVariants.{Trailing};
 ghost use Rattle.tpm_keys.specs.Kinds.{has_hash};
-ghost use Rattle.tpm_keys.specs.Reading.{aes, area, area_fault, area_in, cipher, hash, head, is_aes, key_type, nothing, scheme, scheme_kind, sized, some_hash};
+ghost use Rattle.tpm_keys.specs.Reading.{aes, area, area_fault, area_in, bare_area, cipher, has_type, hash, head, is_aes, is_bare, key_type, nothing, scheme, scheme_kind, sized, sized_area, some_hash};
 ghost use Rattle.tpm_keys.specs.Spelling.{IsPublicArea, KeyArea, area_of, area_spelling};
 
 use crate::fault::KeyFault;
@@ -54,8 +53,9 @@ pub struct PublicArea<'a> {
     pub spelled: &'a [u8],
 }
 
-/// Reads a public area: all of the bytes, as `tpm2_readpublic -o` writes them. Returns the first fault: of the frame, and then of the area from left
-/// to right.
+/// Reads a public area: all of the bytes, with their number before them, as `tpm2_readpublic -o` writes them, or bare, as go-tpm keeps them. They
+/// are bare if they begin with the type of a key, and no type follows. Returns the first fault: of the frame, and then of the area from left to
+/// right.
 pub fn read_area(bytes: &[u8]) -> Result<PublicArea<'_>, KeyFault>
     // `Ok` only if the bytes are a public area, and state this.
     ensures found { IfOk result (λ area. IsPublicArea bytes.now (area_of area)) }
@@ -67,30 +67,63 @@ pub fn read_area(bytes: &[u8]) -> Result<PublicArea<'_>, KeyFault>
     area_in(bytes)
 }
 
-// Reads the frame, and all of the bytes in it.
+// Reads an area from all of the bytes, bare or behind its size.
 #[tactic(auto, unfolding(crate::specs::Reading::area_in))]
 fn area_in(bytes: &[u8]) -> Result<PublicArea<'_>, KeyFault>
     ensures read { Reads area_of result (area_in bytes.now) }
+    ensures spelled { IfOk result (λ area. area.spelled.now ≡ area_spelling (area_of area)) }
+{
+    if is_bare(bytes) {
+        bare_area(bytes)
+    } else {
+        sized_area(bytes)
+    }
+}
+
+// Whether an area is bare: a type comes first, and none after it.
+fn is_bare(bytes: &[u8]) -> bool
+    ensures { result ≡ is_bare bytes.now }
+{
+    match type_at(bytes) {
+        Ok((_, rest)) => !has_type(rest),
+        Err(_) => false,
+    }
+}
+
+// Whether a type is at the start.
+fn has_type(bytes: &[u8]) -> bool
+    ensures { result ≡ has_type bytes.now }
+{
+    match type_at(bytes) {
+        Ok(_) => true,
+        Err(_) => false,
+    }
+}
+
+// Reads the frame, and all of the bytes in it.
+#[tactic(auto, unfolding(crate::specs::Reading::sized_area))]
+fn sized_area(bytes: &[u8]) -> Result<PublicArea<'_>, KeyFault>
+    ensures read { Reads area_of result (sized_area bytes.now) }
     ensures spelled { IfOk result (λ area. area.spelled.now ≡ area_spelling (area_of area)) }
 {
     let (framed, after) = sized_at(bytes)?;
     if !after.is_empty() {
         return Err(KeyFault::Trailing);
     }
-    framed_area(framed)
+    bare_area(framed)
 }
 
-// Reads an area from all of the bytes in the frame.
-fn framed_area(framed: &[u8]) -> Result<PublicArea<'_>, KeyFault>
-    ensures read { Reads area_of result (whole Trailing area framed.now) }
-    ensures spelled { IfOk result (λ area. area.spelled.now ≡ framed.now) }
+// Reads an area from all of the bytes.
+fn bare_area(bytes: &[u8]) -> Result<PublicArea<'_>, KeyFault>
+    ensures read { Reads area_of result (bare_area bytes.now) }
+    ensures spelled { IfOk result (λ area. area.spelled.now ≡ bytes.now) }
 {
-    let (area, rest) = area_at(framed)?;
+    let (area, rest) = area_at(bytes)?;
     if !rest.is_empty() {
         return Err(KeyFault::Trailing);
     }
     Ok(PublicArea {
-        spelled: framed,
+        spelled: bytes,
         ..area
     })
 }

@@ -1,5 +1,5 @@
 //! Public areas of keys of a TPM 2.0: what they state, whether a TPM signs with the key only what it made, and the key as other programs read
-//! it (TPM 2.0 Library, part 2, TPM2B_PUBLIC).
+//! it (TPM 2.0 Library, part 2, TPM2B_PUBLIC and TPMT_PUBLIC).
 #![tactic(auto)]
 
 mod area;

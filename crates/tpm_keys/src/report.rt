@@ -73,7 +73,7 @@ impl PublicArea<'_> {
     }
 }
 
-// The kind of a key of these numbers. The bits of a modulus of 2^61 bytes or more have no number here: a public area has at most 2^16.
+// The kind of a key of these numbers. The bits of a modulus of 2^61 bytes or more have no number here: that of a public area has fewer than 2^13.
 fn kind(material: Material<'_>) -> KeyKind
     ensures { AreNumbers (numbers_of material.entry) → result ≡ kind_of (numbers_of material.entry) }
 {

@@ -84,7 +84,8 @@ fn members_and_words_are_those_of_the_schema() {
         "event" Event, "entry" Entry, "fault" Fault, "report_row" Row, "place_row" PlaceRow, "pcr" Register,
         "stray" Stray, "quoted_bank" QuotedBank, "clock" Clock, "declared_algorithm" DeclaredAlgorithm, "specification" Specification,
         "content" Content, "command_data" CommandData, "variable" Variable, "image_data" ImageData, "gpt" Gpt, "partition" Partition,
-        "blob" Blob, "tagged" Tagged, "load_option" LoadOption, "signature" UefiSignature, "signature_list" UefiSignatureList, "fields" Fields,
+        "blob" Blob, "tagged" Tagged, "handoff" Handoff, "vendor_table" VendorTable, "load_option" LoadOption, "signature" UefiSignature,
+        "certificate" Certificate, "signature_list" UefiSignatureList, "fields" Fields, "claim_data" Claim,
         "image" Image, "command" Command, "ima_policy" ImaPolicy,
         "boot_variable" BootVariable, "alike" Alike, "changed" Changed, "digests" Digests, "measured" Measured,
     }

@@ -27,6 +27,8 @@ fn boots_are_what_pcrs_confirm() {
     let found = boot(&log, Evidence::Expected(b""), None).unwrap();
     assert_eq!((found.secure_boot, found.firmware_version), (SecureBoot::Unknown, Answer::Word(AnswerWord::Unknown)));
     assert_eq!((found.alike, found.changed, found.json.lines().count()), (vec![], vec![], 7));
+    let evidence = Evidence::Expected(&expected);
+    assert_eq!(boot(Log::hcrtm(&log), evidence, None), boot(&log, evidence, None));
 }
 
 #[test]

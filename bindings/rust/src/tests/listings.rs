@@ -43,6 +43,30 @@ fn damaged_inputs_give_what_comes_before_the_error() {
     check_refused(show(sample.cut()), Kind::List, 1, Some(98));
 }
 
+#[test]
+fn inputs_in_other_forms_are_converted() {
+    let Sample { log, list, .. } = Sample::new();
+    assert_eq!(convert_list(&file("samples/real-boot/ima.ascii")), Ok(list.clone()));
+    let padded = [&log[..], &[0xff; 70_000]].concat();
+    assert_eq!((convert_log(&padded), convert_log(&log)), (Ok((log.clone(), 70_000)), Ok((log, 0))));
+    check_refused(convert_list(b"x"), Kind::TextList, 1, Some(1));
+    check_refused(convert_log(&list), Kind::LogForm, 13, None);
+}
+
+/// The event of an H-CRTM tells where PCR 0 began, as an event of the locality does.
+#[test]
+fn event_of_an_hcrtm_is_looked_at() {
+    let sample = Sample::new();
+    let log = [&sample.log[..], &[0, 0, 0, 0, 0x10, 0, 0, 0x80, 1, 0, 0, 0, 11, 0], &[0; 36]].concat();
+    let told = [&log[..], &[0, 0, 0, 0, 3, 0, 0, 0, 0, 0, 0, 0, 17, 0, 0, 0], b"StartupLocality\0\x04"].concat();
+    let (hcrtm, list, expected) = (Log::hcrtm(&log), &sample.list[..], &sample.expected[..]);
+    assert_eq!((registers(hcrtm), registers(&log) == registers(&told)), (registers(&told), false));
+    assert_eq!(verify(hcrtm, list, expected, PCRS), verify(&told, list, expected, PCRS));
+    assert_eq!(locate(hcrtm, list, expected, PCRS), locate(&told, list, expected, PCRS));
+    assert_eq!(attest(hcrtm, list, &sample.quote()), attest(&told, list, &sample.quote()));
+    assert_eq!(Session::new(hcrtm, expected, PCRS).more(list), Session::new(&told, expected, PCRS).more(list));
+}
+
 /// A library that gives the pieces of a script, one after another.
 fn scripted(script: &Listed<'_>, at: &mut Position, out: &mut Out) -> i32 {
     let (result, text) = serde_json::from_slice::<Vec<(i32, String)>>(script.bytes).unwrap().swap_remove(at.number);

@@ -54,6 +54,41 @@ fn entries_of_no_known_file_are_given() {
     assert_eq!(verify(log, list, expected, Required::known(PCRS, &[])).unwrap().unknown.len(), 98);
 }
 
+/// A list whose boot aggregate is of PCRs 0 to 7 alone; PCR 10 after it; and the digest of the quote of these PCRs.
+const OLDER: &str = "0a000000089fcd578cd04e0e1e51891481f98ba8211b8ee406000000696d612d6e673f000000280000007368613235363a00\
+                     83fbd31c9fa207f89c0204636df1a676c75b871e87534e42a24ccfc0177674170f000000626f6f745f61676772656761746500";
+const TENTH: &str = "6be0b6b45f4f65155cb41622a4a22adced650f43f8b8ff46d15aa80c1fec1a69";
+const QUOTED: &str = "9041284f12bd87819184a3d451aff552207578c1cd913744ff077b42a1dfbae1";
+
+#[test]
+fn boot_aggregate_of_an_older_kernel_is_taken_if_asked_for() {
+    let bytes_in =
+        |digits: &str| -> Vec<u8> { (0..digits.len()).step_by(2).map(|at| u8::from_str_radix(&digits[at..at + 2], 16).unwrap()).collect() };
+    let (sample, list) = (Sample::new(), &bytes_in(OLDER)[..]);
+    let log = &sample.log;
+    let lines: Vec<_> = sample.expected.split_inclusive(|byte| *byte == b'\n').take(10).collect();
+    let expected = &[lines.concat(), format!("sha256 10 {TENTH}\n").into_bytes()].concat();
+    let message = &[&sample.message[..sample.message.len() - 32], &bytes_in(QUOTED)].concat();
+    let (required, quote) = (Required::from(PCRS), Quote::new(Signing::ByCaller, message, Nonce::Hex(&sample.nonce), PCRS));
+    for (required, quote, is_taken, word) in
+        [(required, quote, false, BootAggregate::Wrong), (required.old_kernel(), quote.old_kernel(), true, BootAggregate::OldKernel)]
+    {
+        for found in [verify(log, list, expected, required), Session::new(log, expected, required).more(list)] {
+            let found = found.unwrap();
+            assert_eq!((found.matches, found.boot_aggregate), (is_taken, word.clone()));
+        }
+        for found in [attest(log, list, &quote), Session::by_quotes(log).attest(list, &quote)] {
+            let found = found.unwrap();
+            assert_eq!((found.matches, found.boot_aggregate), (is_taken, word.clone()));
+        }
+        let evidence = Evidence::Quote { list, quote };
+        assert_eq!(boot(log, evidence, None).unwrap().quote_differs, !is_taken);
+        assert_eq!(confirmed_events(log, evidence).unwrap().quote_differs(), !is_taken);
+    }
+    assert_eq!(verify(log, list, expected, Required::from(NOTHING_REQUIRED).old_kernel()).unwrap().boot_aggregate, BootAggregate::Wrong);
+    check_refused(replay(list, expected, required.old_kernel()), Kind::Argument, 0, None);
+}
+
 #[test]
 fn sample_is_attested_by_its_key_or_the_callers_word() {
     let sample = Sample::new();

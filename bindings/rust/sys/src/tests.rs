@@ -59,7 +59,7 @@ fn numbers_are_those_of_the_header() {
         assert!(forms.iter().any(|form| header.contains(form)), "{line}");
     }
     // (none is left out: an enumeration ends after its last number)
-    assert!(["MISUSED = 6", "SIGNATURE = 11", "BY_QUOTE = 2"].iter().all(|last| header.contains(&format!("IMA_VERIFY_{last} }}"))));
+    assert!(["MISUSED = 6", "LOG_FORM = 13", "BY_QUOTE = 2", "CONVERT_LOG = 2"].iter().all(|last| header.contains(&format!("IMA_VERIFY_{last} }}"))));
     assert!(header.contains(concat!("#define IMA_VERIFY_PACKAGE_VERSION \"", env!("CARGO_PKG_VERSION"), "\" ")));
     // SAFETY: the function takes nothing and only returns a number.
     assert!(unsafe { ima_verify_version() } >= IMA_VERIFY_VERSION);

@@ -76,6 +76,7 @@ whole_after known replay = record {
   entries = replay.entries;
   bytes = replay.tracker.bytes;
   recorded = replay.recorded;
+  told = replay.told;
   stray = replay.stray;
 }
 
@@ -91,6 +92,7 @@ checkpoint_at known replay prefix = record {
   entries = min (prefix.last + 1) (2 ^ 64 - 1);
   bytes = prefix.bytes;
   recorded = replay.recorded;
+  told = replay.told;
   stray = stray_within replay.stray prefix.last;
 }
 

@@ -6,7 +6,7 @@ ghost use Rattle.hex.specs.Hex.{encode_lower};
 ghost use Rattle.byte_streams.specs.Streams.{Sends};
 ghost use Rattle.std.specs.Prelude.{codes, decimal, flat_map};
 ghost use Rattle.pcr_values.specs.Names.{all_registers};
-ghost use Rattle.growing_lists.specs.CheckpointTexts.{bank_lines, banks_lines, boot_lines, checkpoint_body, checkpoint_text, data_lines, number_line, seal_line, recorded_line, stray_entry, stray_register, value_line};
+ghost use Rattle.growing_lists.specs.CheckpointTexts.{bank_lines, banks_lines, boot_lines, checkpoint_body, checkpoint_text, data_lines, number_line, seal_line, recorded_line, stray_entry, stray_register, value_line, told_line};
 
 use crate::saved_state::{Boot, SavedState};
 use boot_verdict::{Checkpoint, LIST_REGISTER, Stray};
@@ -81,6 +81,7 @@ fn write_data<S: Sink>(checkpoint: &Checkpoint, sink: &mut S) -> Result<(), Fail
 {
     write_counts(checkpoint.entries, checkpoint.bytes, sink)?;
     write_recorded(&checkpoint.recorded, sink)?;
+    write_told(&checkpoint.told, sink)?;
     write_section(b"before\n", &checkpoint.before, sink)?;
     write_section(b"after\n", &checkpoint.after, sink)?;
     write_stray(checkpoint.stray, sink)
@@ -112,6 +113,21 @@ fn write_recorded<S: Sink>(recorded: &Option<Digest>, sink: &mut S) -> Result<()
             let digits = digits_of(digest, &mut room);
             let name = digest.alg().name().as_bytes();
             send_pieces(&[b"boot_aggregate ", name, b":", digits, b"\n"], sink)
+        }
+    }
+}
+
+// Writes the line of the boot aggregate that another template records, if there is one.
+fn write_told<S: Sink>(told: &Option<Digest>, sink: &mut S) -> Result<(), Failed>
+    ensures { Sends (S.state sink.old) (S.state sink.new) result (told_line told.now) }
+{
+    match told {
+        None => send(b"", sink),
+        Some(digest) => {
+            let mut room = [0; MOST_DIGITS];
+            let digits = digits_of(digest, &mut room);
+            let name = digest.alg().name().as_bytes();
+            send_pieces(&[b"boot_aggregate_told ", name, b":", digits, b"\n"], sink)
         }
     }
 }

@@ -3,7 +3,7 @@
 use super::real_boot::{FIRMWARE_LOG, IMA_LIST};
 use attestations::{AttestFault, Cause, Policy, PolicyFault, QuoteRefusal, attest};
 use boot_log::LogFault;
-use boot_verdict::{Requirement, VerifyFault};
+use boot_verdict::{AggregateRule, Requirement, VerifyFault};
 use ima_list::ListFault;
 use pcr_values::SelectionFault;
 use std::alloc::{AllocError, Global};
@@ -27,6 +27,7 @@ fn real_boot_is_attested(rt: HostRuntime) -> Result<(), Fail> {
         nonce: QUOTE_NONCE,
         required: &required,
         takes_sha1: false,
+        rule: AggregateRule::PLAIN,
     };
     let attested = attest(FIRMWARE_LOG, IMA_LIST, QUOTE, &policy)?;
     assert_eq!(rt; attested.events, 24);
@@ -105,6 +106,7 @@ fn evidence_that_the_quote_is_not_of(rt: HostRuntime) -> Result<(), Fail> {
             nonce,
             required: &required,
             takes_sha1: false,
+            rule: AggregateRule::PLAIN,
         };
         assert_eq!(rt; attest(log, list, QUOTE, &policy).err(), Some(fault));
     }

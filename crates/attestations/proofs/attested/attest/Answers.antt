@@ -38,11 +38,11 @@ returns-in-Some-cause_against-clause-only c =
     let is = c.in_ok-known.ensures.known in
     λ table events entries quote sound message taken log list genuine none.
     let viewed = log_viewed c.in_ok-view.ensures.found log in
-    let read = c.cause_against.ensures c.args.list.now table events viewed (rw c.in_ok-known.ensures.before (c.registers.ensures table events viewed)) is in
+    let read = c.cause_against.ensures c.args.list.now table events viewed (c.registers-start.ensures table events viewed) (rw c.in_ok-known.ensures.before c.banks_for.ensures.selected) is in
     let quoted : quote_of c.in_ok-quote.quote ≡ quote = sym (ok_is quote (quote_of c.in_ok-quote.quote) (c.in_ok-quote.ensures.only quote message taken)) in
     let listed = one_list is.list_is list in
-    let here : cause_against (algs_in table) events is.entries (quote_of c.in_ok-quote.quote) ≡ None =
-    (λ i. cause_against (algs_in table) events (listed i) (quoted i)) ∙ none in
+    let here : cause_against c.args.policy.now.rule (algs_in table) events is.entries (quote_of c.in_ok-quote.quote) ≡ None =
+    (λ i. cause_against c.args.policy.now.rule (algs_in table) events (listed i) (quoted i)) ∙ none in
     absurd (some_not_none c.in-Some-cause_against.cause (sym c.in-Some-cause_against.is ∙ read ∙ here))
 
 pub returns-in-Some-cause_against-clause-fault : goal.returns-in-Some-cause_against-clause-fault
@@ -50,7 +50,7 @@ returns-in-Some-cause_against-clause-fault c =
     let sound = c.in_ok-view.ensures.sound in
     let is = c.in_ok-known.ensures.known in
     let viewed = log_viewed c.in_ok-view.ensures.found sound.2 in
-    let read = c.cause_against.ensures c.args.list.now sound.0 sound.1 viewed (rw c.in_ok-known.ensures.before (c.registers.ensures sound.0 sound.1 viewed)) is in (
+    let read = c.cause_against.ensures c.args.list.now sound.0 sound.1 viewed (c.registers-start.ensures sound.0 sound.1 viewed) (rw c.in_ok-known.ensures.before c.banks_for.ensures.selected) is in (
       sym c.fault.ensures ∙ c.in_default.is,
       record {
         table = sound.0;
@@ -73,8 +73,8 @@ returns-in-None-clause-attested c =
     let sound = c.in_ok-view.ensures.sound in
     let is = c.in_ok-known.ensures.known in
     let viewed = log_viewed c.in_ok-view.ensures.found sound.2 in
-    let read = c.cause_against.ensures c.args.list.now sound.0 sound.1 viewed (rw c.in_ok-known.ensures.before (c.registers.ensures sound.0 sound.1 viewed)) is in
+    let read = c.cause_against.ensures c.args.list.now sound.0 sound.1 viewed (c.registers-start.ensures sound.0 sound.1 viewed) (rw c.in_ok-known.ensures.before c.banks_for.ensures.selected) is in
     attested_by c.args.log.now c.args.list.now c.args.message.now (terms_of c.args.policy.now) sound.0 sound.1 is.entries
     (quote_of c.in_ok-quote.quote) (attestation_of c.confirmed.result) (sym c.fault.ensures ∙ c.in_default.is) c.in_ok-quote.ensures.found
     c.in_ok-quote.ensures.asked sound.2 is.list_is is.genuine (sym read ∙ c.in-None.is)
-    (c.confirmed.ensures c.args.list.now sound.0 sound.1 viewed is)
+    (c.confirmed.ensures c.args.list.now sound.0 sound.1 viewed (c.registers-start.ensures sound.0 sound.1 viewed) is)

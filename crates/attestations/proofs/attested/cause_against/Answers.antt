@@ -8,13 +8,13 @@ use Rattle.attestations.proofs.attested.cause_against.Goals as goal
 
 pub returns-in-Some : goal.returns-in-Some
 returns-in-Some c =
-    λ list table events log firmware is.
-    ap (λ (o : Option Cause). option_or o (cause_in_registers (algs_in table) events is.entries (quote_of c.args.quote.now)))
+    λ list table events log firmware same is.
+    ap (λ (o : Option Cause). option_or o (cause_in_registers c.args.rule (algs_in table) events is.entries (quote_of c.args.quote.now)))
     (sym c.in-Some.is ∙ c.cause_in_extends.ensures list table events log is)
 
 pub returns : goal.returns
 returns c =
-    λ list table events log firmware is.
-    c.cause_in_registers.ensures list table events firmware is
-    ∙ ap (λ (o : Option Cause). option_or o (cause_in_registers (algs_in table) events is.entries (quote_of c.args.quote.now)))
+    λ list table events log firmware same is.
+    c.cause_in_registers.ensures list table events firmware same is
+    ∙ ap (λ (o : Option Cause). option_or o (cause_in_registers c.args.rule (algs_in table) events is.entries (quote_of c.args.quote.now)))
     (sym c.in_default.is ∙ c.cause_in_extends.ensures list table events log is)

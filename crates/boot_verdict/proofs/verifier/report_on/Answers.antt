@@ -1,18 +1,9 @@
-use Rattle.std.proofs.Common.{ap, ◌∙◌}
-use Rattle.boot_log.specs.Names.{algs_in}
-use Rattle.boot_verdict.specs.Names.{aggregate_of}
-use Rattle.boot_verdict.proofs.VerdictLaws.{rows_same}
+use Rattle.std.proofs.lemmas.Result.{IfOk-weaker}
+use Rattle.boot_verdict.proofs.KeptLaws.{same_all}
 use Rattle.boot_verdict.proofs.verifier.report_on.Goals as goal
 
 pub returns : goal.returns
 returns c =
-    λ table events list is firmware checkpoint.
-    let algs = algs_in table in
-    let count = c.count.ensures table events is in
-    let locality = c.locality.ensures table events is in
-    let entries = checkpoint.count in
-    let aggregate = c.aggregate_of.ensures algs events firmware ∙ ap (aggregate_of algs events) checkpoint.recorded in
-    let event = c.first_extending.ensures table events is in
-    let entry = checkpoint.stray in
-    let rows = c.in_ok-rows_on.ensures ∙ rows_same algs events checkpoint.entries c.args.known.now.before c.args.known.now.after c.args.expected.now firmware checkpoint.replayed in
-    λ i. record { events = count i; locality = locality i; entries = entries i; aggregate = aggregate i; strays = record { event = event i; entry = entry i }; rows = rows i }
+    IfOk-weaker c.report_after.result _ _
+    (λ report is table events list log firmware checkpoint.
+    is table events list log firmware (same_all c.args.expected.now c.args.known.now.before) checkpoint) c.report_after.ensures

@@ -52,22 +52,22 @@ returns-in_err-known-clause-memory c =
     let same : c.in_err-known.field-0.0 ≡ Memory = cc in
     absurd (c.in_err-known.ensures.memory (ap Err same)))
 
-pub returns-in_err-report_on-clause-report : goal.returns-in_err-report_on-clause-report
-returns-in_err-report_on-clause-report c =
-    let p = err_from_is_err_and c.from_residual-in_err-report_on.result c.from_residual-in_err-report_on.ensures.1 in rw p.1 tt
+pub returns-in_err-report_after-clause-report : goal.returns-in_err-report_after-clause-report
+returns-in_err-report_after-clause-report c =
+    let p = err_from_is_err_and c.from_residual-in_err-report_after.result c.from_residual-in_err-report_after.ensures.1 in rw p.1 tt
 
-pub returns-in_err-report_on-clause-only : goal.returns-in_err-report_on-clause-only
-returns-in_err-report_on-clause-only c =
-    let p = err_from_is_err_and c.from_residual-in_err-report_on.result c.from_residual-in_err-report_on.ensures.1 in
+pub returns-in_err-report_after-clause-only : goal.returns-in_err-report_after-clause-only
+returns-in_err-report_after-clause-only c =
+    let p = err_from_is_err_and c.from_residual-in_err-report_after.result c.from_residual-in_err-report_after.ensures.1 in
     rw (p.1, p.2) (λ table events entries log list genuine. inl refl)
 
-pub returns-in_err-report_on-clause-fault : goal.returns-in_err-report_on-clause-fault
-returns-in_err-report_on-clause-fault c =
-    let p = err_from_is_err_and c.from_residual-in_err-report_on.result c.from_residual-in_err-report_on.ensures.1 in
+pub returns-in_err-report_after-clause-fault : goal.returns-in_err-report_after-clause-fault
+returns-in_err-report_after-clause-fault c =
+    let p = err_from_is_err_and c.from_residual-in_err-report_after.result c.from_residual-in_err-report_after.ensures.1 in
     rw (p.1, p.2) tt
 
-pub returns-in_err-report_on-clause-memory : goal.returns-in_err-report_on-clause-memory
-returns-in_err-report_on-clause-memory c =
+pub returns-in_err-report_after-clause-memory : goal.returns-in_err-report_after-clause-memory
+returns-in_err-report_after-clause-memory c =
     let sound = c.in_ok-log.ensures.sound in
     let is = c.in_ok-known.ensures.known in
     λ memory. (
@@ -80,8 +80,8 @@ returns-clause-report c =
     let sound = c.in_ok-log.ensures.sound in
     let is = c.in_ok-known.ensures.known in
     let viewed = log_viewed c.in_ok-log.ensures.found sound.2 in
-    verdict_by sound.2 is (c.in_ok-report_on.ensures sound.0 sound.1 _ viewed
-    (rw c.in_ok-known.ensures.before (c.registers-start.ensures sound.0 sound.1 viewed)) is)
+    verdict_by sound.2 is (c.in_ok-report_after.ensures sound.0 sound.1 _ viewed
+    (c.registers-start.ensures sound.0 sound.1 viewed) (rw c.in_ok-known.ensures.before c.banks_for.ensures.asked) is)
 
 pub returns-clause-only : goal.returns-clause-only
 returns-clause-only c =
@@ -90,4 +90,4 @@ returns-clause-only c =
     let same = one_list list is.list_is in
     let viewed = log_viewed c.in_ok-log.ensures.found log in
     ap Ok (ap (λ (those : List ListEntry). verdict_on (algs_in table) events those c.args.expected.now) same
-    ∙ sym (c.in_ok-report_on.ensures table events _ viewed (rw c.in_ok-known.ensures.before (c.registers-start.ensures table events viewed)) is))
+    ∙ sym (c.in_ok-report_after.ensures table events _ viewed (c.registers-start.ensures table events viewed) (rw c.in_ok-known.ensures.before c.banks_for.ensures.asked) is))

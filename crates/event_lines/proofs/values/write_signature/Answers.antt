@@ -3,5 +3,5 @@ use Rattle.event_lines.proofs.values.write_signature.Goals as goal
 
 pub returns : goal.returns
 returns c =
-    named c.in_ok-key.ensures
-    (in_object c.in_ok-begin_object.ensures (joined c.in_ok-write_guid.ensures c.in_ok-write_hex.ensures) c.in_ok-end_object.ensures)
+    let members = joined c.in_ok-write_guid.ensures (joined c.in_ok-write_hex.ensures c.in_ok-write_certificate.ensures) in
+    named c.in_ok-key.ensures (in_object c.in_ok-begin_object.ensures members c.in_ok-end_object.ensures)

@@ -1,6 +1,6 @@
 use Rattle.std.proofs.Common.{[], ap, refl, ◌∙◌}
 use Rattle.pcr_banks.specs.Names.{value_at}
-use Rattle.hints.specs.OldAggregates.{is_old}
+use Rattle.boot_verdict.specs.Names.{is_old}
 use Rattle.hints.proofs.OldLaws.{begins_here, decided_complete, decided_faulty, decided_first}
 use Rattle.hints.proofs.old_aggregates.begins_with_old.Goals as goal
 
@@ -8,8 +8,8 @@ pub returns-in-Ok-Some : goal.returns-in-Ok-Some
 returns-in-Ok-Some c =
     let list = c.args.list.now in
     let read = rw c.in-Ok-Some.field-0-is at c.in-Ok-Some.ensures.entry in
-    decided_first list (value_at c.args.registers.now) _ _ c.is_old.result (read list [] (rw c.new.ensures (begins_here list)))
-    (c.is_old.ensures ∙ ap (is_old (value_at c.args.registers.now)) c.recorded_in.ensures)
+    decided_first list (value_at c.args.registers.now) _ _ c.is_of_old_kernel.result (read list [] (rw c.new.ensures (begins_here list)))
+    (c.is_of_old_kernel.ensures ∙ ap (is_old (value_at c.args.registers.now)) c.recorded_by_any.ensures)
 
 pub returns-in-Ok-None : goal.returns-in-Ok-None
 returns-in-Ok-None c =

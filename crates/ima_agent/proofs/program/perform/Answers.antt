@@ -28,6 +28,12 @@ returns-in-Boot g c =
     (outcome_sent (g.F.Files.inputs c.args.files.now) (tasks.Boot c.in-Boot.log c.in-Boot.confirmed_by c.in-Boot.before) c.args.form _ _ c.boot_for.result _ _ _
     c.boot_for.ensures.shown c.boot_for.ensures.kept c.boot_for.ensures.fault c.send_output-in-Boot.ensures)
 
+pub returns-in-Convert : goal.returns-in-Convert
+returns-in-Convert g c =
+    rw c.in-Convert.is
+    (outcome_sent (g.F.Files.inputs c.args.files.now) (tasks.Convert c.in-Convert.input c.in-Convert.conversion) c.args.form _ _ c.converted_for.result
+    _ _ _ c.converted_for.ensures.shown c.converted_for.ensures.kept c.converted_for.ensures.fault c.send_output-in-Convert.ensures)
+
 pub returns-in-Entries : goal.returns-in-Entries
 returns-in-Entries g c = rw c.in-Entries.is c.entries_for.ensures
 

@@ -18,4 +18,4 @@ returns-in-Ok c =
 pub returns-in-Err : goal.returns-in-Err
 returns-in-Err c =
     let fits : SFits w32 c.give_fault.result = search rules in
-    rw (to_z-of_z fits) (gives_refusal _ _ c.in-Err.fault _ _ _ _ c.in-Err.ensures.fault c.give_fault.ensures)
+    rw (to_z-of_z fits) (gives_refusal _ _ c.in-Err.fault _ _ _ _ (inl c.in-Err.ensures.fault) c.give_fault.ensures)

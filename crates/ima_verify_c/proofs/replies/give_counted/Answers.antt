@@ -2,7 +2,6 @@ use Rattle.std.proofs.Common.{None, refl, inl, rules, w32}
 use mir.Val.{SFits}
 use Rattle.std.proofs.Math.Facts.{to_z-of_z}
 use Rattle.ima_verify_c.specs.Answers.{answer_of_status}
-use Rattle.ima_verify_c.proofs.GivingLaws.{counts_refusal}
 use Rattle.ima_verify_c.proofs.replies.give_counted.Goals as goal
 
 pub returns-in-Ok : goal.returns-in-Ok
@@ -20,5 +19,5 @@ returns-in-Ok c =
 
 pub returns-in-Err : goal.returns-in-Err
 returns-in-Err c =
-    let fits : SFits w32 c.give_fault.result = search rules in
-    rw (to_z-of_z fits) (counts_refusal _ _ c.in-Err.fault _ _ _ _ c.in-Err.ensures.fault c.give_fault.ensures _ _ c.fill_if.ensures)
+    let fits : SFits w32 c.give_no_verdict.result = search rules in
+    rw (to_z-of_z fits) (c.give_no_verdict.ensures _ (inl c.in-Err.ensures.fault))

@@ -7,7 +7,7 @@ use Rattle.judging.proofs.attesting.answer_by_quote.Goals as goal
 pub returns-in_err-state-clause-fault : goal.returns-in_err-state-clause-fault
 returns-in_err-state-clause-fault g c =
     let p = err_from_is_err_and c.from_residual-in_err-state.result c.from_residual-in_err-state.ensures.1 in
-    let why = rw (c.in_ok-values.ensures.inputs, c.in_ok-log.ensures.inputs, c.comparison_of-comparison.ensures.wanted) at c.in_err-state.ensures.fault in
+    let why = rw (c.in_ok-values.ensures.inputs, c.in_ok-log.ensures.inputs, c.comparison_of-comparison.ensures.resume) at c.in_err-state.ensures.fault in
     let counted = rw c.in_ok-log.ensures.inputs at c.in_ok-values.ensures.counted in
     rw (p.1, p.2) (inr (inr (inl ((counted.stated, counted.stated_is), why))))
 
@@ -20,7 +20,7 @@ returns-in_err-values-clause-fault g c =
 pub returns-in_err-found-clause-fault : goal.returns-in_err-found-clause-fault
 returns-in_err-found-clause-fault g c =
     let p = err_from_is_err_and c.from_residual-in_err-found.result c.from_residual-in_err-found.ensures.1 in
-    let known = rw (c.in_ok-values.ensures.inputs, c.in_ok-log.ensures.inputs, c.comparison_of-comparison.ensures.wanted) at c.in_ok-state.ensures.state in
+    let known = rw (c.in_ok-values.ensures.inputs, c.in_ok-log.ensures.inputs, c.comparison_of-comparison.ensures.resume) at c.in_ok-state.ensures.state in
     let files = rw (c.in_ok-state.ensures.inputs, c.in_ok-values.ensures.inputs, c.in_ok-log.ensures.inputs) at c.in_ok-known_files.ensures.found in
     let why = rw (
       c.in_ok-known_files.ensures.inputs,
@@ -50,7 +50,7 @@ pub returns-in_err-known_files-clause-fault : goal.returns-in_err-known_files-cl
 returns-in_err-known_files-clause-fault g c =
     let p = err_from_is_err_and c.from_residual-in_err-known_files.result c.from_residual-in_err-known_files.ensures.1 in
     let counted = rw c.in_ok-log.ensures.inputs at c.in_ok-values.ensures.counted in
-    let state = rw (c.in_ok-values.ensures.inputs, c.in_ok-log.ensures.inputs, c.comparison_of-comparison.ensures.wanted) at c.in_ok-state.ensures.state in
+    let state = rw (c.in_ok-values.ensures.inputs, c.in_ok-log.ensures.inputs, c.comparison_of-comparison.ensures.resume) at c.in_ok-state.ensures.state in
     let why = rw (c.in_ok-state.ensures.inputs, c.in_ok-values.ensures.inputs, c.in_ok-log.ensures.inputs) at c.in_err-known_files.ensures.fault in
     rw (p.1, p.2)
     (inr (inr (inr (inl ((counted.stated, counted.stated_is), (c.in_ok-state.state, state, c.in_ok-state.ensures.boot), why)))))
@@ -72,7 +72,7 @@ returns-clause-answer g c =
       asked_for = asked;
       log_is = c.in_ok-log.ensures.all;
       counted_are = rw c.in_ok-log.ensures.inputs at c.in_ok-values.ensures.counted;
-      state_is = rw (c.in_ok-values.ensures.inputs, c.in_ok-log.ensures.inputs, c.comparison_of-comparison.ensures.wanted) at c.in_ok-state.ensures.state;
+      state_is = rw (c.in_ok-values.ensures.inputs, c.in_ok-log.ensures.inputs, c.comparison_of-comparison.ensures.resume) at c.in_ok-state.ensures.state;
       boot_is = c.in_ok-state.ensures.boot;
       files_are = rw (c.in_ok-state.ensures.inputs, c.in_ok-values.ensures.inputs, c.in_ok-log.ensures.inputs) at c.in_ok-known_files.ensures.found;
       judged = rw (c.answered_with.ensures.answer, c.answered_with.ensures.unknown) (rw (

@@ -1,4 +1,4 @@
-use Rattle.std.proofs.Common.{Some, ap, ◌∙◌, inl, arith}
+use Rattle.std.proofs.Common.{Some, ap, ◌∙◌, inl}
 use Rattle.std.proofs.Math.Path.{fun_ext}
 use Rattle.std.proofs.lemmas.Result.{IfErr-weaker, IfOk-weaker, err_from_is_err_and}
 use Rattle.measuring.specs.parts.{names_borrowed}
@@ -15,7 +15,7 @@ returns-in_err-text-clause-fault g c =
     let p = err_from_is_err_and c.from_residual-in_err-text.result c.from_residual-in_err-text.ensures.1 in
     rw (p.1, p.2) (no_names (g.F.Files.inputs c.args.files.now) c.args.request.now c.in_ok-bytes.bytes.items
     (rw c.deref.ensures at c.in_ok-bytes.ensures.all)
-    (omega (arith, c.in_ok-bytes.ensures.within), rw c.deref-2.ensures.value at c.in_ok-log.ensures.sound) _
+    (rw c.deref-2.ensures.value at c.in_ok-log.ensures.sound) _
     (inl (rw c.in_ok-bytes.ensures.inputs at c.in_err-text.ensures.fault)))
 
 pub returns-in_err-names-clause-fault : goal.returns-in_err-names-clause-fault
@@ -23,7 +23,7 @@ returns-in_err-names-clause-fault g c =
     let p = err_from_is_err_and c.from_residual-in_err-names.result c.from_residual-in_err-names.ensures.1 in
     rw (p.1, p.2) (no_names (g.F.Files.inputs c.args.files.now) c.args.request.now c.in_ok-bytes.bytes.items
     (rw c.deref.ensures at c.in_ok-bytes.ensures.all)
-    (omega (arith, c.in_ok-bytes.ensures.within), rw c.deref-2.ensures.value at c.in_ok-log.ensures.sound) _
+    (rw c.deref-2.ensures.value at c.in_ok-log.ensures.sound) _
     (rw c.deref-3.ensures.value at c.in_err-names.ensures.fault (g.F.Files.inputs c.args.files.now)
     (rw c.in_ok-bytes.ensures.inputs at c.in_ok-text.ensures.text)))
 
@@ -45,7 +45,7 @@ returns-clause-fault g c =
     let same = fun_ext (λ name. c.shared.ensures.held name ∙ ap (λ inputs. inputs.held (Some name)) same_inputs) in
     IfErr-weaker c.measure_over.result _ _
     (not_all inputs c.args.request.now c.in_ok-bytes.bytes.items (rw c.deref.ensures at c.in_ok-bytes.ensures.all)
-    (omega (arith, c.in_ok-bytes.ensures.within), rw c.deref-2.ensures.value at c.in_ok-log.ensures.sound)
+    (rw c.deref-2.ensures.value at c.in_ok-log.ensures.sound)
     (names_borrowed c.in_ok-names.names.items) are _ _ same
     (λ name fails. rw same_inputs at c.shared.ensures.fails name fails))
     (rw (c.deref-4.ensures.value, c.in_ok-log.ensures.found, c.deref-2.ensures.value) at c.measure_over.ensures.fault)

@@ -1,8 +1,7 @@
-use Rattle.std.proofs.Common.{arith, sym, ◌∙◌}
-use Rattle.tpm_keys.proofs.AreaLaws.{framed_so}
+use Rattle.std.proofs.Common.{arith}
+use Rattle.tpm_keys.proofs.AreaLaws.{spelled_so}
 use Rattle.tpm_keys.proofs.area.area_in.Goals as goal
 
-pub returns-clause-spelled : goal.returns-clause-spelled
-returns-clause-spelled c =
-    framed_so c.args.bytes.now c.in_ok-framed.framed.now c.in_ok-framed.after.now c.framed_area.result (λ i. omega (arith, c.type_inv.bytes i))
-    c.in_ok-framed.ensures (sym c.is_empty.ensures ∙ c.if-not-is_empty.false) c.framed_area.ensures.read c.framed_area.ensures.spelled
+pub returns-then-is_bare-clause-spelled : goal.returns-then-is_bare-clause-spelled
+returns-then-is_bare-clause-spelled c =
+    spelled_so c.args.bytes.now c.bare_area.result (λ i. omega (arith, c.type_inv.bytes i)) c.bare_area.ensures.read c.bare_area.ensures.spelled

@@ -13,6 +13,7 @@ returns-clause-known c =
         count = all.replays.count;
         size = size;
         recorded = all.replays.recorded;
+        told = all.replays.told;
         stray = all.replays.stray;
       },
       refl,

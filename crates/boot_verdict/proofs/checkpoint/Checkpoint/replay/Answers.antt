@@ -9,7 +9,7 @@ returns-clause-replays c =
       record {
         entries = is.entries;
         reading = is.list_is;
-        replays = record { count = is.count; recorded = is.recorded; stray = is.stray; replayed = (is.genuine, tracked) };
+        replays = record { count = is.count; recorded = is.recorded; told = is.told; stray = is.stray; replayed = (is.genuine, tracked) };
         genuine = is.genuine;
         tracked = tracked;
       },

@@ -1,0 +1,62 @@
+//! The names of vendor tables.
+
+ghost use Rattle.std.specs.Prelude.{◌≡◌, option_map};
+ghost use Rattle.event_data.specs.TableNames.{table_name};
+
+// eb9d2d2f-2d88-11d3-9a16-0090273fc14d.
+const MPS: [u8; 16] = [
+    0x2F, 0x2D, 0x9D, 0xEB, 0x88, 0x2D, 0xD3, 0x11, 0x9A, 0x16, 0x00, 0x90, 0x27, 0x3F, 0xC1, 0x4D,
+];
+
+// eb9d2d30-2d88-11d3-9a16-0090273fc14d.
+const ACPI: [u8; 16] = [
+    0x30, 0x2D, 0x9D, 0xEB, 0x88, 0x2D, 0xD3, 0x11, 0x9A, 0x16, 0x00, 0x90, 0x27, 0x3F, 0xC1, 0x4D,
+];
+
+// 8868e871-e4f1-11d3-bc22-0080c73c8881.
+const ACPI_20: [u8; 16] = [
+    0x71, 0xE8, 0x68, 0x88, 0xF1, 0xE4, 0xD3, 0x11, 0xBC, 0x22, 0x00, 0x80, 0xC7, 0x3C, 0x88, 0x81,
+];
+
+// eb9d2d31-2d88-11d3-9a16-0090273fc14d.
+const SMBIOS: [u8; 16] = [
+    0x31, 0x2D, 0x9D, 0xEB, 0x88, 0x2D, 0xD3, 0x11, 0x9A, 0x16, 0x00, 0x90, 0x27, 0x3F, 0xC1, 0x4D,
+];
+
+// f2fd1544-9794-4a2c-992e-e5bbcf20e394.
+const SMBIOS_3: [u8; 16] = [
+    0x44, 0x15, 0xFD, 0xF2, 0x94, 0x97, 0x2C, 0x4A, 0x99, 0x2E, 0xE5, 0xBB, 0xCF, 0x20, 0xE3, 0x94,
+];
+
+// b1b621d5-f19c-41a5-830b-d9152c69aae0.
+const DEVICE_TREE: [u8; 16] = [
+    0xD5, 0x21, 0xB6, 0xB1, 0x9C, 0xF1, 0xA5, 0x41, 0x83, 0x0B, 0xD9, 0x15, 0x2C, 0x69, 0xAA, 0xE0,
+];
+
+// 93bb96af-b9f2-4eb8-9462-e0ba74564236.
+const OVMF: [u8; 16] = [
+    0xAF, 0x96, 0xBB, 0x93, 0xF2, 0xB9, 0xB8, 0x4E, 0x94, 0x62, 0xE0, 0xBA, 0x74, 0x56, 0x42, 0x36,
+];
+
+/// The name of the vendor table with this GUID (UEFI 2.10, section 4.6, as Linux has it; EDK2), where one is known.
+pub fn table_name(vendor: &[u8]) -> Option<&'static str>
+    ensures { option_map (λ name. name.now) result ≡ table_name vendor.now }
+{
+    if vendor == MPS.as_slice() {
+        Some("MPS_TABLE_GUID")
+    } else if vendor == ACPI.as_slice() {
+        Some("ACPI_TABLE_GUID")
+    } else if vendor == ACPI_20.as_slice() {
+        Some("ACPI_20_TABLE_GUID")
+    } else if vendor == SMBIOS.as_slice() {
+        Some("SMBIOS_TABLE_GUID")
+    } else if vendor == SMBIOS_3.as_slice() {
+        Some("SMBIOS3_TABLE_GUID")
+    } else if vendor == DEVICE_TREE.as_slice() {
+        Some("DEVICE_TREE_GUID")
+    } else if vendor == OVMF.as_slice() {
+        Some("gUefiOvmfPkgTokenSpaceGuid")
+    } else {
+        None
+    }
+}

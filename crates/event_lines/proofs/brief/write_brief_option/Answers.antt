@@ -1,0 +1,8 @@
+use Rattle.cells.proofs.WrittenLaws.{in_object, joined, named}
+use Rattle.event_lines.proofs.brief.write_brief_option.Goals as goal
+
+pub returns : goal.returns
+returns c =
+    let members = joined c.in_ok-write_number.ensures
+    (joined c.in_ok-write_wide.ensures (joined c.in_ok-write_path.ensures c.in_ok-write_brief.ensures)) in
+    named c.in_ok-key.ensures (in_object c.in_ok-begin_object.ensures members c.in_ok-end_object.ensures)

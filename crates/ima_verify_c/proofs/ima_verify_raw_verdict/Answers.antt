@@ -1,0 +1,9 @@
+use Rattle.std.proofs.Common.{inr, rules, w32}
+use mir.Val.{SFits}
+use Rattle.std.proofs.Math.Facts.{to_z-of_z}
+use Rattle.ima_verify_c.proofs.ima_verify_raw_verdict.Goals as goal
+
+pub returns-in-Err : goal.returns-in-Err
+returns-in-Err c =
+    let fits : SFits w32 c.give_no_verdict.result = search rules in
+    rw (to_z-of_z fits, ← c.form_of-form.ensures) (c.give_no_verdict.ensures _ (inr c.in-Err.ensures.fault))

@@ -1,0 +1,3 @@
+pub mod Paddings
+pub mod Reading
+pub mod Missing
