@@ -17,7 +17,10 @@ NO_DASK = "this machine has no python3 with Dask's distributed"
 SECONDS = 240  # (a limit for what is to come: the computer may have much else to do)
 REQUIRE = "sha256:0-10"  # of all runs that ask for nothing else
 UNQUOTED = ("--unquoted",)  # of all runs that say nothing of quotes
-SHARED = ("--progress", "1", "--deadline", str(2 * SECONDS))  # (a machine may wait at a gate)
+# A machine may wait at a gate, and is not slow meanwhile: after a sixtieth of its deadline a machine is asked again.
+SHARED = ("--progress", "1", "--deadline", str(60 * SECONDS))
+# Waits until a scheduler has so many workers.
+WORKERS_ARE_THERE = "import sys; from distributed import Client; Client(sys.argv[1]).wait_for_workers(int(sys.argv[2]))"
 
 
 def has(python, module):
@@ -164,7 +167,9 @@ class Processes:
         processes = [self.start(worker, **given) for _ in range(workers)] + [last]
         until("a scheduler", file.exists)
         until("its address", lambda: file.read_text().endswith("}"))
-        yield next(word for word in file.read_text().split('"') if word.startswith(f"{protocol}://")), processes
+        address = next(word for word in file.read_text().split('"') if word.startswith(f"{protocol}://"))
+        self.start(["-c", WORKERS_ARE_THERE, address, workers]).communicate(timeout=SECONDS)
+        yield address, processes
         for process in processes:
             process.terminate()
 

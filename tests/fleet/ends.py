@@ -10,7 +10,7 @@ from pathlib import Path
 
 from cluster import REQUIRE, ROOT, SECONDS, UNQUOTED, children_of, preloading, until
 from fleet_verify.versions import FIRST
-from tables import counted, query, rows_of, times_of
+from tables import counted, noted_calls, query, rows_of, times_of
 
 NOTES = Path(__file__).with_name("noted_calls.py")
 # A line beside the counts of a run: a cause, and how many machines have it.
@@ -90,11 +90,9 @@ class Ends:
         times = times_of(table)
         self.check(f"{title}: what was recorded stays", {each: times[each] for each in recorded}, recorded)
 
-    def notes(self):
-        return Path(self.tools.environment["NOTED_CALLS"])
-
     def noted(self):
-        return self.notes().read_text().split() if self.notes().exists() else []
+        """The numbers of the machines of all calls."""
+        return [number for number, _ in noted_calls(Path(self.tools.environment["NOTED_CALLS"]))]
 
 
 def test_ends(tools, fleet):
@@ -268,7 +266,7 @@ def test_stopped_worker(ends):
     client.communicate(timeout=SECONDS)
     ends.check("a worker is stopped: status", client.returncode, 1)
     ends.check("a worker is stopped: each machine has its verdict", rows_of(table), ends.fleet.rows)
-    ends.check("a worker is stopped: it had a machine", (ends.tools.folder / "stopped.calls").read_text().split().count("10"), 2)
+    ends.check("a worker is stopped: it had a machine", [number for number, _ in noted_calls(ends.tools.folder / "stopped.calls")].count("10"), 2)
 
 
 def test_no_library(ends):

@@ -1,5 +1,5 @@
 """Preloaded by the workers of tests/fleet/test: notes each call of `ima_verify.verify` or `attest` on a log, and each of a session's `more`, in the
-file NOTED_CALLS, a line each.
+file NOTED_CALLS, a line each: the machine's number, and the worker's process.
 
 A machine is known by its number, that of the empty lines at the end of its expected registers. The machines DEADLY kill their
 worker, the machine STOPPING stops the first that verifies it, the machine LARGE gets no memory, and on the machine LYING the worker answers
@@ -61,15 +61,20 @@ def is_open(number):
         return True
 
 
+def count_of(number):
+    """How often a machine's call is noted."""
+    return sum(line.startswith(f"{number} ") for line in Path(os.environ["NOTED_CALLS"]).read_text().splitlines())
+
+
 def note(number):
     """Notes a call on the machine of this number."""
     with open(os.environ["NOTED_CALLS"], "a") as calls:
-        calls.write(f"{number}\n")
+        calls.write(f"{number} {os.getpid()}\n")
     while not is_open(number):
         time.sleep(SECONDS)
     if number in os.environ.get("DEADLY", "").split(","):
         os.kill(os.getpid(), signal.SIGKILL)
-    if number == os.environ.get("STOPPING") and Path(os.environ["NOTED_CALLS"]).read_text().split().count(number) == 1:
+    if number == os.environ.get("STOPPING") and count_of(number) == 1:
         os.kill(os.getpid(), signal.SIGSTOP)
     if number == os.environ.get("LARGE"):
         raise MemoryError

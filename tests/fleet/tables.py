@@ -30,6 +30,11 @@ def files_of_an_older_kernel():
     return log.spelling(), list_spelling(entries), inputs.expected_text(inputs.expected_after(log, entries)[:11])
 
 
+def noted_calls(file):
+    """The calls that workers noted in a file: of each the machine's number and the worker's process."""
+    return [(number, int(process)) for number, process in map(str.split, file.read_text().splitlines())] if file.exists() else []
+
+
 def query(table, text, *values):
     """The answer of SQLite; an empty one, if there is no such table yet."""
     with closing(sqlite3.connect(table, timeout=SECONDS)) as connection:
