@@ -27,6 +27,7 @@ RULES = (
     (re.compile(r"(?<![\w/])bindings/c/ima_verify\.h"), "include/ima_verify.h"),
     # of the page of the fleet
     (re.compile(r"\nIn this repository the command is `fleet/verify\.py`\."), ""),
+    (re.compile(r"\[`fleet/grafana/`\]\(\.\./fleet/grafana\)"), "`share/ima-agent/grafana/`"),
 )
 
 # What only the repository has: its scripts, and its folders.

@@ -1,9 +1,9 @@
-/* Do a machine's boot log and measurement list account for the PCR values of its TPM 2.0?
+/* Do a machine's boot log and measurement list make the PCR values of its TPM 2.0?
  *
- * A firmware event log (TCG, crypto-agile) and a binary measurement list of Linux IMA are replayed, and the PCR values
- * that they make are compared with expected ones, or with a quote that the TPM signed. The files are, on the machine,
+ * A firmware event log (TCG, crypto-agile) and a binary measurement list of Linux IMA are replayed. The PCR values that
+ * they make are compared with expected ones, or with a quote that the TPM signed. On the machine the files are
  * /sys/kernel/security/tpm0/binary_bios_measurements and /sys/kernel/security/ima/binary_runtime_measurements. Expected
- * PCR values are text, a line for each, such as `sha256 10 <64 hexadecimal digits>`.
+ * PCR values are text, with a line for each, such as `sha256 10 <64 hexadecimal digits>`.
  *
  *     struct ima_verify_evidence evidence = {
  *         .log = {log, log_size}, .list = {list, list_size}, .expected = {text, text_size},
@@ -15,28 +15,28 @@
  *     if (ima_verify_verdict(&evidence, IMA_VERIFY_TEXT, &summary, &output) == IMA_VERIFY_DONE) ..
  *
  * A function gives the text that the program `ima-agent` prints for the command of the same name, or with
- * IMA_VERIFY_JSON the lines that it prints with --json, except that inputs may also be longer than 64 MiB. The pages
- * formats.md, event-data.md and json.md have the formats, verdict.md what a verdict means, errors.txt and ima-agent(1)
- * what each error number means.
+ * IMA_VERIFY_JSON the lines that it prints with --json. Inputs may also be longer than 64 MiB. The pages formats.md,
+ * event-data.md and json.md describe the formats, verdict.md what a verdict means, and errors.txt what each error
+ * number means.
  *
- * Inputs in other forms, such as the kernel's list as text, are converted by ima_verify_convert.
+ * ima_verify_convert converts inputs in other forms, such as the kernel's list as text.
  *
- * A verdict covers the boot aggregate and the PCRs that are expected, and no others: `require` says which PCRs it must
- * cover. A verdict on no PCR is no match. With a requirement a verdict is `match` only if no event of the log extends
- * PCR 10 and each entry of the list names it; otherwise the report has a line such as `event 31 extends 10` or `entry
- * 17 extends 11`. With `checks_known` the entries must also be of known files.
+ * A verdict covers only the boot aggregate and the expected PCRs: `require` says which PCRs these must include. A
+ * verdict on no PCR is never a match. With a requirement a verdict is `match` only if no event of the log extends PCR
+ * 10 and every entry of the list extends PCR 10; otherwise the report has a line such as `event 31 extends 10` or
+ * `entry 17 extends 11`. With `checks_known` the entries must also be for known files.
  *
- * Pointers. One that is NULL has a size of 0; otherwise the function returns IMA_VERIFY_MISUSED. Nothing may change an
- * input during a call, as another process may change a mapped file: the bytes whose signature is verified would not be
- * those that are judged. Inputs may overlap each other, and calls may share them; outputs may overlap nothing else that
- * a call is given.
+ * Pointers. A NULL pointer must have the size 0; otherwise the function returns IMA_VERIFY_MISUSED. Nothing may change
+ * an input during a call, as another process may change a mapped file: the bytes whose signature is verified would not
+ * be those that are judged. Inputs may overlap each other, and calls may share them. Outputs may overlap nothing else
+ * that a call is given.
  *
- * Memory. What a call allocates by malloc and realloc it gives back by free before it returns; if you replace
- * them, replace all three. A call keeps no event of a log and no entry of a list but in the text that it gives. It
+ * Memory. A call allocates with malloc and realloc, and frees everything before it returns. If you replace one of
+ * malloc, realloc and free, replace all three. A call keeps no events or entries except in the text that it gives. It
  * takes less than 512 KiB of stack.
  *
- * Threads. Nothing is kept between calls, so any number of threads may call at once, each with its own outputs. Do
- * not call from a signal handler, nor in the forked child of a process with threads.
+ * Threads. Nothing is kept between calls, so any number of threads may call at once, each with its own outputs. Do not
+ * call from a signal handler, nor in the forked child of a process with threads.
  *
  * Link with libima_verify.a or libima_verify.so (`pkg-config --cflags --libs ima_verify`). */
 #ifndef IMA_VERIFY_H
@@ -69,84 +69,87 @@ enum ima_verify_result {
     IMA_VERIFY_DONE = 0,
     /* The text is complete. A verdict is `differ`, or a quote's signature was not checked. For places, no PCR is
      * expected, a value was not reached, or one is missing. For a boot and for the last events, the verdict by the
-     * quote is no match, and nothing is confirmed. */
+     * quote is not `match`, and nothing is confirmed. */
     IMA_VERIFY_DIFFERS = 1,
-    /* An input is refused: `error` says why, and the text is the line that says so, such as
-     * `refused: log fault 1 at event 0`. As JSON it is an object with the member `fault`; no other line has one. */
+    /* An input is refused: `error` says why, and the text is the line that says so, such as `refused: log fault 1 at
+     * event 0`. As JSON it is an object with the member `fault`, which no other line has. */
     IMA_VERIFY_REFUSED = 2,
-    /* Memory ran out: the text is the line `failed: memory`, or that as JSON. */
+    /* Memory ran out: the text is the line `failed: memory`, or the same as JSON. */
     IMA_VERIFY_OUT_OF_MEMORY = 3,
-    /* The capacity is too small for the text, and nothing was written: `size` says how much is needed. Call again with
-     * that capacity, in a loop, since the next text may have another size. */
+    /* The capacity is too small for the text, and nothing was written: `size` says how much is needed. Call again in a
+     * loop, since the next text may need more. */
     IMA_VERIFY_TOO_SHORT = 4,
     /* The text has whole lines of entries or events, and there are more: call again. */
     IMA_VERIFY_MORE = 5,
-    /* A pointer is NULL whose size is not 0; or a form, an origin, a purpose, a conversion, a position, an error or the
-     * size of a summary does not exist; or known files are given without `checks_known`, or to a function that checks
-     * no entry; or of a key and a signature only one is given, or both beside `signature_checked`; or a nonce is given
-     * twice, or both expected PCRs and a quote. Nothing was read or written. */
+    /* Nothing was read or written, because of one of these mistakes:
+     *
+     * - A pointer is NULL although its size is not 0.
+     * - A form, origin, purpose, conversion, position, error or size of a summary is invalid.
+     * - Known files are given without `checks_known`, or to a function that checks no entry.
+     * - Only one of key and signature is given, or one of them together with `signature_checked`.
+     * - A nonce is given twice, or expected PCRs together with a quote. */
     IMA_VERIFY_MISUSED = 6
 };
 
-/* In which form a text is given. */
+/* The form of a text. */
 enum ima_verify_form {
     /* Lines of text. */
     IMA_VERIFY_TEXT = 0,
-    /* A line of JSON (RFC 8259); for a boot, entries and events one line each. */
+    /* Lines of JSON (RFC 8259): one for each entry, event or answer on a boot, otherwise only one. */
     IMA_VERIFY_JSON = 1
 };
 
-/* Why an input was refused. ima_verify_error_text says it in words. */
+/* What an error is about. ima_verify_error_text says it in words. */
 enum ima_verify_error_kind {
     IMA_VERIFY_NO_ERROR = 0,
-    /* `require` or `registers` is malformed, or `nonce_hex` is; with known files also if `require` is `none`; with a
-     * quote also if `require` leaves out one of the PCRs 0 to 10 or names one in the SHA-1 bank alone, or the nonce is
-     * too short. */
+    /* `require`, `registers` or `nonce_hex` is malformed, or `require` is `none` although files must be known. For a
+     * quote also: `require` lacks one of the PCRs 0 to 10, or names one only in the SHA-1 bank, or the nonce is too
+     * short. */
     IMA_VERIFY_ARGUMENT = 1,
-    /* The firmware event log: the place is an event; the header is event 0. */
+    /* The firmware event log. The place is an event; the header is event 0. */
     IMA_VERIFY_LOG = 2,
-    /* The measurement list: the place is an entry; the first is 0. */
+    /* The measurement list. The place is an entry; the first is 0. */
     IMA_VERIFY_LIST = 3,
-    /* The template digest of an entry does not match: the place is that entry. */
+    /* The template digest of an entry does not match. The place is that entry. */
     IMA_VERIFY_REPLAY = 4,
-    /* The expected PCR values, or what tpm2-tools printed: the place is a line; the first is 1. */
+    /* The expected PCR values, or what tpm2-tools printed. The place is a line; the first is 1. */
     IMA_VERIFY_EXPECTED = 5,
     /* The checkpoint. */
     IMA_VERIFY_CHECKPOINT = 6,
     /* Memory ran out. */
     IMA_VERIFY_MEMORY = 7,
-    /* The message of the quote: it is none, or has another nonce (11), or does not select a PCR that is required
-     * (12). */
+    /* The message of the quote: it is not a quote (1 to 10), has another nonce (11), or lacks a required PCR (12). */
     IMA_VERIFY_QUOTE = 8,
-    /* The public area of a key: it is none (1 to 10), or the key lacks what its purpose needs (11 to 22). */
+    /* The public area of a key: it is invalid (1 to 10), or the key is not fit for its purpose (11 to 22). */
     IMA_VERIFY_KEY = 9,
-    /* The known files: a line has a digest by SHA-1 (1), or is no digest and name (2). The place is that line; the
+    /* The known files: a line has a SHA-1 digest (1), or is not a digest and a name (2). The place is that line; the
      * first is 1. */
     IMA_VERIFY_KNOWN = 10,
-    /* The signature of the quote's message: it is none (1 to 4), its scheme (5) or its hash (6) is not the key's, or
-     * the key did not sign this message (7). Or the library verifies no signatures by such a key (8), or what begins as
-     * PEM is not the text that ima_verify_key gives of a key by which it does (9). */
+    /* The signature of the quote's message: it is invalid (1 to 4), its scheme (5) or its hash (6) is not the key's, or
+     * the key did not sign this message (7). Or the library verifies no signatures by such a key (8), or a PEM is not
+     * the text that ima_verify_key gives for a key that it takes (9). */
     IMA_VERIFY_SIGNATURE = 11,
-    /* The text of a measurement list, which ima_verify_convert takes: the place is a line; the first is 1. */
+    /* The text of a measurement list, for ima_verify_convert. The place is a line; the first is 1. */
     IMA_VERIFY_TEXT_LIST = 12,
-    /* The firmware event log that ima_verify_convert takes: the place is an event; the header is event 0. */
+    /* The firmware event log, for ima_verify_convert. The place is an event; the header is event 0. */
     IMA_VERIFY_LOG_FORM = 13
 };
 
-/* The place of an error that names none, and the PCR of a summary that has none. */
+/* Stands for no place in an error, and for no PCR in a summary. */
 #define IMA_VERIFY_NO_PLACE UINT64_MAX
 
-/* A checkpoint has fewer bytes, and so has the text that says which PCRs match. */
+/* A checkpoint has fewer bytes than this, and so has the text of matching PCRs. */
 #define IMA_VERIFY_CHECKPOINT_CAPACITY 20000
 #define IMA_VERIFY_MATCHING_CAPACITY 2048
 
-/* An error. After IMA_VERIFY_REFUSED and IMA_VERIFY_OUT_OF_MEMORY it is that of the text; otherwise there is none. */
+/* An error. After IMA_VERIFY_REFUSED and IMA_VERIFY_OUT_OF_MEMORY it is the one that the text states; otherwise there
+ * is none. */
 struct ima_verify_error {
     /* One of ima_verify_error_kind. */
     uint32_t kind;
-    /* Its number among the errors of its kind, as in errors.txt; 0 if they have none. */
+    /* Its number among the errors of its kind, as in errors.txt, or 0 without one. */
     uint32_t number;
-    /* Where it is, or IMA_VERIFY_NO_PLACE. */
+    /* The number of the event, entry or line, or IMA_VERIFY_NO_PLACE. */
     uint64_t place;
 };
 
@@ -161,7 +164,7 @@ struct ima_verify_output {
     /* Where the text goes, and how many bytes fit there. */
     uint8_t *data;
     size_t capacity;
-    /* The call sets these: the size of the text, and the error. */
+    /* Set by the call: the size of the text, and the error. */
     size_t size;
     struct ima_verify_error error;
 };
@@ -174,25 +177,24 @@ struct ima_verify_evidence {
     struct ima_verify_bytes list;
     /* The text of expected PCR values. */
     struct ima_verify_bytes expected;
-    /* The PCRs that must be among them, such as `sha256:0-10` or `sha256:0-7,sha1:10`: each that is not has a row such
-     * as `sha256 4 missing`, and then the verdict is `differ`. The word `none` (ima_verify_none) names no PCR. Without
-     * bytes it is refused, and so is one that names PCR 10 of no bank. */
+    /* The PCRs that must be among them, such as `sha256:0-10` or `sha256:0-7,sha1:10`. For each that is not, the report
+     * has a row such as `sha256 4 missing`, and the verdict is `differ`. The word `none` (ima_verify_none) requires no
+     * PCR. Without bytes it is refused, and so is a selection without PCR 10 in any bank. */
     struct ima_verify_bytes require;
-    /* The known files, with `checks_known`: a line for each, as sha256sum, sha384sum and sha512sum print them. Give
-     * several texts one after another, each with a line feed at its end. */
+    /* The known files, with `checks_known`: a line for each, as sha256sum, sha384sum and sha512sum print them. Join
+     * several texts, each with a line feed at its end. */
     struct ima_verify_bytes known;
-    /* Whether each entry must be of a known file, but for the boot aggregate, with which a list begins. The report has
-     * a line for each that is not, such as `unknown entry 17`, and then the verdict is `differ`. Without bytes in
-     * `known` no file is known. */
+    /* Whether each entry must be for a known file, except the boot aggregate, with which a list begins. For each that
+     * is not, the report has a line such as `unknown entry 17`, and the verdict is `differ`. Without bytes in `known`
+     * no file is known. */
     bool checks_known;
-    /* Whether an event of the log of type EV_EFI_HCRTM_EVENT in PCR 0 tells that PCR 0 began at 4, if no event tells a
-     * locality (TPM 2.0 Library, part 1, 34.3): so it is where an H-CRTM measured before the firmware ran. If it is
-     * `false`, as a member that is left out is, only an event that tells a locality counts. For a boot and its events
-     * this is a parameter, and that of a quote is not looked at. */
+    /* Whether PCR 0 starts at 4 if the log has an event of type EV_EFI_HCRTM_EVENT in PCR 0 and none with a locality:
+     * an H-CRTM measured before the TPM was started (TPM 2.0 Library, part 1, 34.3). If it is `false` (the default),
+     * only a locality counts. For a boot and its events this is a parameter, and that of a quote is ignored. */
     bool hcrtm;
-    /* Whether a boot aggregate over PCRs 0 to 7 is taken, as kernels before 5.8 make it; the report then says
-     * `boot_aggregate old_kernel`. It counts for ima_verify_verdict and ima_verify_more, where `require` names PCRs;
-     * the others do not look at it. If it is `false`, as a member that is left out is, none is taken. */
+    /* Whether a boot aggregate over PCRs 0 to 7 is accepted, as kernels before 5.8 make it; the report then says
+     * `boot_aggregate old_kernel`. It counts for ima_verify_verdict and ima_verify_more, if `require` names PCRs, and
+     * is ignored by the others. If it is `false` (the default), none is accepted. */
     bool old_kernel;
 };
 
@@ -204,52 +206,52 @@ struct ima_verify_quoted {
     struct ima_verify_bytes list;
     /* The message that the TPM signed, a TPMS_ATTEST: the file that `tpm2_quote -m` writes. */
     struct ima_verify_bytes message;
-    /* The machine's attestation key: its public area, a TPM2B_PUBLIC or bare, whose credential was activated, or the
-     * PEM that ima_verify_key gives of it. */
+    /* The machine's attestation key: its public area, a TPM2B_PUBLIC or bare, whose credential was activated, or its
+     * PEM, as ima_verify_key gives it. */
     struct ima_verify_bytes key;
-    /* The signature of the message by this key: the file that `tpm2_quote -s` writes, with `-f plain` or without. */
+    /* The signature of the message by this key: the file that `tpm2_quote -s` writes, with or without `-f plain`. */
     struct ima_verify_bytes signature;
-    /* The verifier's own nonce for this quote, used once, of 16 bytes or more: as bytes, or in `nonce_hex` as
-     * hexadecimal digits, as `openssl rand -hex 20` writes it (a line feed may end it). Give one of the two. */
+    /* The verifier's own nonce for this quote, used once, of 16 bytes or more. Give either its bytes, or in `nonce_hex`
+     * its hexadecimal digits, as `openssl rand -hex 20` writes them (a line feed may end them). */
     struct ima_verify_bytes nonce, nonce_hex;
     /* The PCRs that must be quoted, at least 0 to 10, such as `sha256:0-10`. */
     struct ima_verify_bytes require;
-    /* Whether a PCR may be required in the SHA-1 bank alone. */
+    /* Whether a PCR may be required only in the SHA-1 bank. */
     bool allow_sha1;
-    /* Whether the caller has verified the message's signature by the machine's attestation key, where the library
+    /* Whether the caller has verified the message's signature by the machine's attestation key, because the library
      * cannot (ima_verify_evp.h verifies some). `key` and `signature` then have no bytes. If they have none and this is
-     * `false`, as a member that is left out is, nothing is attested, and the report ends in `signature not checked`. */
+     * `false` (the default), nothing is attested, and the report ends in `signature not checked`. */
     bool signature_checked;
-    /* The known files, whether each entry must be of one, where PCR 0 began, and whether a boot aggregate as kernels
-     * before 5.8 make it is taken, as in struct ima_verify_evidence. */
+    /* As in struct ima_verify_evidence; by a quote `old_kernel` always counts. */
     struct ima_verify_bytes known;
     bool checks_known, hcrtm, old_kernel;
 };
 
 /* The verdict of a summary. */
 enum ima_verify_verdict_kind {
-    /* There is none: a quote's signature was not checked, or an input is refused, or memory ran out. */
+    /* No verdict: a quote's signature was not checked, an input is refused, or memory ran out. */
     IMA_VERIFY_VERDICT_NONE = 0,
     IMA_VERIFY_VERDICT_MATCH = 1,
     IMA_VERIFY_VERDICT_DIFFER = 2
 };
 
-/* Why a verdict is no match: the first reason that holds. A later library may have more. */
+/* Why a verdict is not `match`: the first reason that holds. A later library may have more. */
 enum ima_verify_reason {
     IMA_VERIFY_REASON_NONE = 0,
     /* The signature of the quote was not checked. */
     IMA_VERIFY_REASON_SIGNATURE = 1,
     /* An expected PCR has another value, or the log lacks its bank. */
     IMA_VERIFY_REASON_VALUE = 2,
-    /* A PCR that is required is not expected. */
+    /* A required PCR is not expected. */
     IMA_VERIFY_REASON_MISSING = 3,
-    /* The quote is of other values. */
+    /* The quote has the hash of other PCR values. */
     IMA_VERIFY_REASON_QUOTE = 4,
-    /* The boot aggregate is wrong, missing, or of no bank of the log; or a list alone is empty. */
+    /* The boot aggregate is wrong, missing, or by an algorithm for which the log has no bank; or a list without a log
+     * is empty. */
     IMA_VERIFY_REASON_BOOT_AGGREGATE = 5,
     /* An event extends PCR 10, or an entry another PCR. */
     IMA_VERIFY_REASON_EXTENDS = 6,
-    /* An entry is of no known file. */
+    /* An entry is not for a known file. */
     IMA_VERIFY_REASON_UNKNOWN = 7,
     /* No PCR was compared. */
     IMA_VERIFY_REASON_NOTHING = 8
@@ -264,57 +266,59 @@ enum ima_verify_bank {
     IMA_VERIFY_BANK_SHA512 = 4
 };
 
-/* A verdict as numbers. After any result but IMA_VERIFY_DONE, IMA_VERIFY_DIFFERS and IMA_VERIFY_MISUSED they are those
- * of no verdict. */
+/* A verdict as numbers. After any result except IMA_VERIFY_DONE, IMA_VERIFY_DIFFERS and IMA_VERIFY_MISUSED they are
+ * those of no verdict. */
 struct ima_verify_summary {
-    /* The caller sets it: sizeof (struct ima_verify_summary). A later header has more numbers after the last. */
+    /* Set by the caller: sizeof (struct ima_verify_summary). A later header may add members at the end. */
     uint64_t size;
-    /* One of ima_verify_verdict_kind, and why (ima_verify_reason). */
+    /* One of ima_verify_verdict_kind, and one of ima_verify_reason. */
     uint64_t verdict, reason;
-    /* How many expected PCRs were compared, and how many of them match. By a quote, the PCRs that it selects: all match
-     * if the quote is of their values, otherwise none. */
+    /* How many expected PCRs were compared, and how many match. For a quote, how many PCRs it selects: all of them
+     * match, or none. */
     uint64_t compared, matching;
-    /* The first expected PCR that differs or is missing: its bank (ima_verify_bank), and its number;
-     * IMA_VERIFY_NO_PLACE if there is none. */
+    /* The first expected PCR that differs or is missing: one of ima_verify_bank, and the PCR's number, or
+     * IMA_VERIFY_NO_PLACE. */
     uint64_t bank, pcr;
     /* How many required PCRs are not expected. */
     uint64_t missing;
-    /* How many entries the list has; how many were judged, the confirmed prefix or all; and how many are of no known
-     * file. */
+    /* How many entries the list has, how many of them were judged (all, or the confirmed prefix), and how many are not
+     * for known files. */
     uint64_t entries, judged, unknown;
 };
 
-/* The bytes of a text that ends with a zero byte, without that. */
+/* The bytes of a string, without its zero byte. */
 static inline struct ima_verify_bytes ima_verify_text(const char *text) {
     struct ima_verify_bytes bytes = {(const uint8_t *)text, strlen(text)};
     return bytes;
 }
 
-/* For `require`: any PCR will do, but some PCR has to be compared. */
+/* For `require`: any PCR will do, but some PCR must be compared. */
 static inline struct ima_verify_bytes ima_verify_none(void) {
     return ima_verify_text("none");
 }
 
-/* The version of the library's interface. A library whose version is that of this header, or later, has all
- * functions below. */
+/* The version of the library's interface. A library of this header's version, or of a later one, has all functions
+ * below. */
 uint32_t ima_verify_version(void);
 
 /* ---- what the library exports, for foreign function interfaces of other languages. A program in C uses the functions
- * further down, which call these. Names, parameters and meanings stay as they are in each library named
+ * further down, which call these. Names, parameters and meanings stay the same in each library named
  * libima_verify.so.1. The rules are:
  *
- * - Bytes are a pair of a pointer and a size. No pointer is NULL, even if the size is 0; that to `numbers` is aligned.
- * - A `bool` is a byte, 0 or 1. `json` asks for JSON. `prefix` and others are those of the functions further down.
- * - The result is one of ima_verify_result. `info` is set in any case: what struct ima_verify_output has.
- * - `numbers` are those of struct ima_verify_summary, of which `numbers_count` are there: the first stays as it is, and
- *   those that the library does not know are set to 0.
- * - `next` is a second text, the checkpoint, whose size is set in any case.
- * - `by` says what tells which PCRs match; inputs of another kind have no bytes. `matching` gives these PCRs as a
- *   selection, such as `sha256:0,sha256:1`: IMA_VERIFY_DONE, or without bytes IMA_VERIFY_DIFFERS if the verdict by the
- *   quote is no match; the line of an error is JSON. Give it to each call of `events` for the same log, with
- *   `matching_given`.
- * - `known` without `checks_known`, `before` without `compares`, `matching` without `matching_given`, `hcrtm` beside
- *   `of_list` and `old_kernel` beside the word `none` are ignored. `padding` is set in any case.
+ * - Bytes are a pair of a pointer and a size. No pointer is NULL, even if the size is 0. The pointer `numbers` is
+ *   aligned.
+ * - A `bool` is a byte, 0 or 1. `json` requests JSON. Other parameters, such as `prefix`, are those of the functions
+ *   further down.
+ * - The result is one of ima_verify_result. `info` is always set: it has the members of struct ima_verify_output.
+ * - `numbers` are those of struct ima_verify_summary, and `numbers_count` is how many there are. The first is not
+ *   changed, and those that the library does not know are set to 0.
+ * - `next` is a second text, the checkpoint, whose size is always set.
+ * - `by` says how matching PCRs are determined; the inputs for other ways have no bytes. `matching` lists these PCRs as
+ *   a selection, such as `sha256:0,sha256:1`, with IMA_VERIFY_DONE. It has no bytes, with IMA_VERIFY_DIFFERS, if the
+ *   verdict by the quote is not `match`. The line of an error is JSON. Give the selection to each call of `events` for
+ *   the same log, with `matching_given`.
+ * - `known` is ignored without `checks_known`, `before` without `compares`, `matching` without `matching_given`,
+ *   `hcrtm` with `of_list`, and `old_kernel` with the word `none`. `padding` is always set.
  * - A later library may add members to lines of JSON. */
 
 struct ima_verify_info {
@@ -392,7 +396,7 @@ int32_t ima_verify_raw_error_text(uint32_t kind, uint32_t number, uint64_t place
 
 /* ---- what the functions below have in common */
 
-/* Bytes for the library, which takes no NULL; and whether the caller may give these. */
+/* Bytes for the library, which takes no NULL; and whether the caller may give these bytes. */
 static inline const uint8_t *ima_verify_data(struct ima_verify_bytes bytes) {
     return bytes.data ? bytes.data : (const uint8_t *)"";
 }
@@ -401,7 +405,7 @@ static inline bool ima_verify_is_given(struct ima_verify_bytes bytes) {
     return bytes.data || !bytes.size;
 }
 
-/* Where a text goes: if nothing fits there, any place that is not NULL. */
+/* Where a text goes: any place that is not NULL, if nothing fits there. */
 static inline uint8_t *ima_verify_start(struct ima_verify_output *output) {
     return output->data ? output->data : (uint8_t *)output;
 }
@@ -435,14 +439,14 @@ static inline bool ima_verify_is_evidence(const struct ima_verify_evidence *evid
            && ima_verify_are_known(evidence->known, evidence->checks_known);
 }
 
-/* A key or a signature without bytes beside one that has some, as from an empty file: a byte that is neither, since
- * to the library no bytes mean that nothing is given. */
+/* A key or signature without bytes, as from an empty file, while the other has some: one byte that is neither, since to
+ * the library no bytes mean that nothing is given. */
 static inline struct ima_verify_bytes ima_verify_beside(struct ima_verify_bytes bytes, struct ima_verify_bytes other) {
     struct ima_verify_bytes neither = {(const uint8_t *)"", 1};
     return bytes.size || !other.size ? bytes : neither;
 }
 
-/* A nonce is given once, and key and signature both or not at all, and not beside the caller's word. */
+/* A nonce is given once. Key and signature are given both or neither, and not together with `signature_checked`. */
 static inline bool ima_verify_is_quoted(const struct ima_verify_quoted *quoted) {
     return quoted && ima_verify_is_given(quoted->log) && ima_verify_is_given(quoted->list)
            && ima_verify_is_given(quoted->message) && ima_verify_is_given(quoted->nonce)
@@ -453,7 +457,7 @@ static inline bool ima_verify_is_quoted(const struct ima_verify_quoted *quoted) 
            && !(quoted->signature_checked && (quoted->key.size || quoted->signature.size));
 }
 
-/* What a call says of its text goes to the output. */
+/* Puts into the output what a call says about its text. */
 static inline enum ima_verify_result
 ima_verify_end(struct ima_verify_output *output, const struct ima_verify_info *info, int32_t result) {
     if (result == IMA_VERIFY_MISUSED) return IMA_VERIFY_MISUSED;
@@ -467,9 +471,9 @@ ima_verify_end(struct ima_verify_output *output, const struct ima_verify_info *i
 /* ---- verdicts */
 
 /* The verdict on a log, a list and expected PCRs. IMA_VERIFY_DONE if the boot aggregate is good, a PCR was compared,
- * each expected PCR has its value, what `require` asks for holds and no entry is unknown, otherwise IMA_VERIFY_DIFFERS;
- * the text is the report, and `summary`, if it is not NULL, has its numbers. The first error is reported, in this
- * order: `require`, the expected PCRs, the known files, the log, the list, whether each template digest matches. */
+ * each expected PCR has its value, `require` is met and no entry is unknown; otherwise IMA_VERIFY_DIFFERS. The text is
+ * the report, and `summary`, if it is not NULL, has its numbers. The first error is reported, in this order: `require`,
+ * the expected PCRs, the known files, the log, the list, whether each template digest matches. */
 IMA_VERIFY_USE_RESULT static inline enum ima_verify_result
 ima_verify_verdict(const struct ima_verify_evidence *evidence, enum ima_verify_form form,
                    struct ima_verify_summary *summary, struct ima_verify_output *output) {
@@ -483,7 +487,7 @@ ima_verify_verdict(const struct ima_verify_evidence *evidence, enum ima_verify_f
 }
 
 /* Where each expected PCR first has its value, such as `sha256 10 after entry 98`. IMA_VERIFY_DONE if a PCR is
- * expected, every value was reached and none of `require` is missing, otherwise IMA_VERIFY_DIFFERS; the text has the
+ * expected, every value was reached and none of `require` is missing; otherwise IMA_VERIFY_DIFFERS. The text has the
  * places. It takes no known files: with `checks_known` it returns IMA_VERIFY_MISUSED. Errors are those of
  * ima_verify_verdict. */
 IMA_VERIFY_USE_RESULT static inline enum ima_verify_result
@@ -497,10 +501,10 @@ ima_verify_locate(const struct ima_verify_evidence *evidence, enum ima_verify_fo
         IMA_VERIFY_IN(evidence->require), form == IMA_VERIFY_JSON, IMA_VERIFY_OUT(output), &info));
 }
 
-/* The verdict on a list alone: it is replayed into banks of all algorithms from the reset values of their PCRs, so a
- * PCR that the firmware extends too differs. The log is not looked at. IMA_VERIFY_DONE if the list has an entry, a PCR
- * was compared, each expected PCR has its value, what `require` asks for holds and no entry is unknown, otherwise
- * IMA_VERIFY_DIFFERS; the text is the report. The first error is reported, in this order: `require`, the expected PCRs,
+/* The verdict on a list without a log. It is replayed into banks of all algorithms from the reset values of their PCRs,
+ * so a PCR that the firmware also extends differs. The log is ignored. IMA_VERIFY_DONE if the list has an entry, a PCR
+ * was compared, each expected PCR has its value, `require` is met and no entry is unknown; otherwise
+ * IMA_VERIFY_DIFFERS. The text is the report. The first error is reported, in this order: `require`, the expected PCRs,
  * the known files, the list, whether each template digest matches. */
 IMA_VERIFY_USE_RESULT static inline enum ima_verify_result
 ima_verify_replay(const struct ima_verify_evidence *evidence, enum ima_verify_form form,
@@ -516,22 +520,21 @@ ima_verify_replay(const struct ima_verify_evidence *evidence, enum ima_verify_fo
 
 /* The verdict on a list that grows, and in `next` the checkpoint from which the next call continues.
  *
- * Without bytes in `state`, the list is that from its beginning. Otherwise `state` is a checkpoint that an earlier call
- * gave, and the list has the bytes that follow what the checkpoint covers. The verdict is on the whole list, and errors
- * number its entries from the first. With `prefix` the report is on the confirmed prefix, if there is one: the list's
- * shortest prefix, no shorter than what the checkpoint covers, whose template digests match, and with which the boot
- * aggregate is good, each expected PCR has its value and none of `require` is missing. What comes after it is not
- * refused, and the report says how many entries it has.
+ * Without bytes in `state`, the list begins with its first entry. Otherwise `state` is a checkpoint that an earlier
+ * call gave, and the list has only the bytes that follow what the checkpoint covers. The verdict is on the whole list,
+ * and errors number its entries from the first. With `prefix` the report covers the confirmed prefix, if there is one:
+ * the shortest prefix of the list, with at least the checkpoint's entries, whose template digests match, whose boot
+ * aggregate is good, and with which each expected PCR has its value and none of `require` is missing. What comes after
+ * it is not refused, and the report says how many entries it has.
  *
- * Only entries that the report is on, and that `state` does not cover, are looked up among the known files. With other
- * known files than those of the calls before, start again without a checkpoint: entries that it covers may be unknown
- * now.
+ * Known files are compared only with entries that the report covers and `state` does not. If the known files change,
+ * start again without a checkpoint: entries that it covers may be unknown now.
  *
- * After IMA_VERIFY_DONE `next` has the checkpoint of what the report is on, the whole list or the confirmed prefix:
- * less than IMA_VERIFY_CHECKPOINT_CAPACITY bytes. If the capacity of one of both outputs is too small, the function
- * returns IMA_VERIFY_TOO_SHORT, sets both sizes, and writes to neither. With any other result there is no checkpoint:
- * its size is 0, and the bytes of `next` stay as they were. Keep the checkpoint that you have until a call has given
- * the next one.
+ * After IMA_VERIFY_DONE `next` has the checkpoint of what the report covers, with less than
+ * IMA_VERIFY_CHECKPOINT_CAPACITY bytes. If the capacity of either output is too small, the function returns
+ * IMA_VERIFY_TOO_SHORT, sets both sizes, and writes to neither. With any other result there is no checkpoint: its size
+ * is 0, and the bytes of `next` stay as they were. Keep the checkpoint that you have until a call has given the next
+ * one.
  *
  * The first error is reported, in this order: `require`, the expected PCRs, the text of the checkpoint (`refused:
  * checkpoint fault 1` or `2`), the known files, the log, whether the checkpoint is of this boot (`refused: checkpoint
@@ -556,23 +559,23 @@ ima_verify_more(const struct ima_verify_evidence *evidence, struct ima_verify_by
     return ima_verify_end(output, &info, result);
 }
 
-/* The verdict on a log and a list that grows by a quote, and in `next` the checkpoint from which the next call
- * continues. `state`, `prefix` and `next` are as those of ima_verify_more, and the two functions take each other's
- * checkpoints, except that a quote continues from a checkpoint only if a quote confirmed it, and the TPM's counts of
- * resets and restarts are those of the new quote: otherwise it is of another boot (`refused: checkpoint fault 4`). A
- * machine that was suspended has another count of restarts, so start again with the whole list.
+/* The verdict by a quote on a log and a list that grows, and in `next` the checkpoint from which the next call
+ * continues. `state`, `prefix` and `next` are as for ima_verify_more, and the two functions take each other's
+ * checkpoints. But a quote continues only from a checkpoint that a quote confirmed, with the TPM's counts of resets and
+ * restarts of the new quote: otherwise it is of another boot (`refused: checkpoint fault 4`). After a suspend the count
+ * of restarts differs, so start again with the whole list.
  *
- * The message must be signed by the key, have the nonce, and select each PCR that `require` names. IMA_VERIFY_DONE if
- * its digest is that of the values to which log and list replay, the boot aggregate is good, no event of the log
- * extends PCR 10, each entry of the list names it, no entry is unknown, and the signature is valid or the caller
- * checked it, otherwise IMA_VERIFY_DIFFERS; the text is the report. The verdict covers the PCRs that the quote selects,
- * and the report names them. With `prefix` it is on the confirmed prefix, if there is one: the shortest after which the
- * PCR values are those of the quote.
+ * The key must have signed the message, which must have the nonce and select each PCR in `require`. IMA_VERIFY_DONE if
+ * the message has the digest of the values to which log and list replay, the boot aggregate is good, no event of the
+ * log extends PCR 10, every entry of the list extends PCR 10, no entry is unknown, and the signature is valid or the
+ * caller checked it; otherwise IMA_VERIFY_DIFFERS. The text is the report. The verdict covers the PCRs that the quote
+ * selects, and the report names them. With `prefix` it covers the confirmed prefix, if there is one: the shortest with
+ * the quote's PCR values.
  *
- * Signatures are verified by RSA keys of 2048 to 4096 bits (RSASSA and RSAPSS) and by keys on P-256 and P-384 (ECDSA),
- * with SHA-256, SHA-384 and SHA-512. The public area of a key states its scheme and hash; a PEM does not, and each is
- * taken. A key that is not restricted, or that was imported into the TPM, also signs messages that no TPM made. Its
- * public area is refused, but a PEM does not say so.
+ * The library verifies signatures by RSA keys of 2048 to 4096 bits (RSASSA and RSAPSS) and by keys on P-256 and P-384
+ * (ECDSA), with SHA-256, SHA-384 and SHA-512. A key's public area states its scheme and hash; a PEM does not, and each
+ * is accepted. A key that is not restricted, or that was imported into the TPM, also signs messages that no TPM made.
+ * Its public area is refused, but a PEM does not say so.
  *
  * The first error is reported, in this order: `require` and the nonce, the key (`refused: key fault 1` to `20`,
  * `refused: signature fault 8` or `9`), the signature (`refused: signature fault 1` to `7`), the message (`refused:
@@ -601,7 +604,7 @@ ima_verify_attest_more(const struct ima_verify_quoted *quoted, struct ima_verify
     return ima_verify_end(output, &info, result);
 }
 
-/* The verdict on a log and a whole list by a quote, as ima_verify_attest_more gives it without a checkpoint. */
+/* The verdict by a quote on a log and a whole list: ima_verify_attest_more without a checkpoint. */
 IMA_VERIFY_USE_RESULT static inline enum ima_verify_result
 ima_verify_attest(const struct ima_verify_quoted *quoted, enum ima_verify_form form,
                   struct ima_verify_summary *summary, struct ima_verify_output *output) {
@@ -613,10 +616,10 @@ ima_verify_attest(const struct ima_verify_quoted *quoted, enum ima_verify_form f
 
 /* ---- PCR values and keys */
 
-/* The expected PCR values in a text that tpm2_pcrread or tpm2_checkquote printed, of the PCRs that the selection
- * `registers` has, such as `sha256:0-10` or `0-7,10`, or of all without bytes; at least one, otherwise the text is
- * refused. A wrong selection is refused before the text. Nothing says who wrote the text, nor whether a quote holds:
- * tpm2_checkquote prints the same of one that it refuses. */
+/* The expected PCR values in a text that tpm2_pcrread or tpm2_checkquote printed: those of the selection `registers`,
+ * such as `sha256:0-10` or `0-7,10`, or without bytes all. A text without any is refused. A wrong selection is refused
+ * before the text. Nothing says who wrote the text, nor whether a quote is valid: tpm2_checkquote prints the same for a
+ * quote that it refuses. */
 IMA_VERIFY_USE_RESULT static inline enum ima_verify_result
 ima_verify_expected(struct ima_verify_bytes printed, struct ima_verify_bytes registers, enum ima_verify_form form,
                     struct ima_verify_output *output) {
@@ -627,17 +630,18 @@ ima_verify_expected(struct ima_verify_bytes printed, struct ima_verify_bytes reg
         IMA_VERIFY_IN(printed), IMA_VERIFY_IN(registers), form == IMA_VERIFY_JSON, IMA_VERIFY_OUT(output), &info));
 }
 
-/* What PCR values are given for. */
+/* What PCR values are computed from. */
 enum ima_verify_origin {
     /* A firmware event log. */
     IMA_VERIFY_OF_LOG = 0,
-    /* A measurement list without a log, from the reset values of all PCRs. It is no verdict. */
+    /* A measurement list without a log, from the reset values of all PCRs. This is not a verdict. */
     IMA_VERIFY_OF_LIST = 1,
     /* A firmware event log, with `hcrtm` as in struct ima_verify_evidence. */
     IMA_VERIFY_OF_HCRTM_LOG = 2
 };
 
-/* The PCR values after a log, or after a list alone, that differ from the reset values, as lines of expected PCRs. */
+/* The PCR values after a log, or after a list without one, that differ from the reset values, as lines of expected
+ * PCRs. */
 IMA_VERIFY_USE_RESULT static inline enum ima_verify_result
 ima_verify_registers(enum ima_verify_origin origin, struct ima_verify_bytes bytes, enum ima_verify_form form,
                      struct ima_verify_output *output) {
@@ -658,13 +662,14 @@ enum ima_verify_purpose {
     IMA_VERIFY_ENDORSEMENT = 1
 };
 
-/* The name of a key, its type and size, its scheme and its PEM, by its public area: a TPM2B_PUBLIC, the file that
- * `tpm2_createak -u` and `tpm2_createek -u` write, or a bare TPMT_PUBLIC. IMA_VERIFY_DONE if the key never leaves the
- * TPM that made it, is restricted and strong, and is fit for its purpose; the text is what `ima-agent key` prints.
- * Otherwise it is refused (`refused: key fault 1` to `22`).
+/* The name, type, size, scheme and PEM of a key, from its public area: a TPM2B_PUBLIC, the file that `tpm2_createak -u`
+ * and `tpm2_createek -u` write, or a bare TPMT_PUBLIC. IMA_VERIFY_DONE if the key never leaves the TPM that made it, is
+ * restricted and strong, and is fit for its purpose; the text is what `ima-agent key` prints. Otherwise it is refused
+ * (`refused: key fault 1` to `22`).
  *
- * An area does not say whose TPM the key is in, and anyone can write one. Take the PEM of an attestation key only after
- * a credential was activated that was made to this name and to the machine's endorsement key, as `ima-enroll` does. */
+ * A public area does not say whose TPM the key is in, and anyone can write one. Accept the PEM of an attestation key
+ * only after activating a credential that was made to this name and to the machine's endorsement key, as `ima-enroll`
+ * does. */
 IMA_VERIFY_USE_RESULT static inline enum ima_verify_result
 ima_verify_key(struct ima_verify_bytes area, enum ima_verify_purpose purpose, enum ima_verify_form form,
                struct ima_verify_output *output) {
@@ -683,15 +688,15 @@ ima_verify_key(struct ima_verify_bytes area, enum ima_verify_purpose purpose, en
 enum ima_verify_conversion {
     /* A measurement list as text, as the kernel's ascii_runtime_measurements has it; it gives the binary list. */
     IMA_VERIFY_CONVERT_LIST = 1,
-    /* A firmware event log in the SHA-1 form (TCG, for TPM 1.2), or one with zeros or bytes 0xFF behind its last event;
+    /* A firmware event log in the SHA-1 form (TCG, for TPM 1.2), or one with zeros or bytes 0xFF after its last event;
      * it gives a crypto-agile log without these. */
     IMA_VERIFY_CONVERT_LOG = 2
 };
 
 /* The input in the form that the other functions read. IMA_VERIFY_DONE if the result's entries have exactly these lines
- * and are genuine, or its events are these; then `padding`, if it is not NULL, has how many bytes behind the last event
- * were left out. Otherwise the input is refused (IMA_VERIFY_TEXT_LIST, IMA_VERIFY_LOG_FORM), and `padding` is 0. Of a
- * log in the SHA-1 form only SHA-1 tells what it says: whoever can make collisions can change it. */
+ * and valid template digests, or if its events are those of the input. `padding`, if it is not NULL, then has how many
+ * bytes after the last event were left out. Otherwise the input is refused (IMA_VERIFY_TEXT_LIST, IMA_VERIFY_LOG_FORM),
+ * and `padding` is 0. Only SHA-1 protects a log in the SHA-1 form: whoever can make collisions can change it. */
 IMA_VERIFY_USE_RESULT static inline enum ima_verify_result
 ima_verify_convert(struct ima_verify_bytes bytes, enum ima_verify_conversion conversion, size_t *padding,
                    struct ima_verify_output *output) {
@@ -708,8 +713,8 @@ ima_verify_convert(struct ima_verify_bytes bytes, enum ima_verify_conversion con
  *
  * `expected` or `quoted`, of which one or both are NULL, says which PCRs match, and so which data of a log is
  * confirmed: the text of expected PCR values, or a quote with the list. A quote confirms the PCRs that `require` names,
- * and nothing unless ima_verify_attest would return IMA_VERIFY_DONE. Its member `log` is not looked at, and it has no
- * known files. */
+ * and nothing unless ima_verify_attest would return IMA_VERIFY_DONE. Its member `log` is ignored, and it has no known
+ * files. */
 
 static inline bool ima_verify_is_confirming(const struct ima_verify_bytes *expected,
                                             const struct ima_verify_quoted *quoted) {
@@ -717,7 +722,7 @@ static inline bool ima_verify_is_confirming(const struct ima_verify_bytes *expec
            && (!quoted || (ima_verify_is_quoted(quoted) && !quoted->checks_known));
 }
 
-/* What confirms, as the library takes it. */
+/* What confirms data, in the library's form. */
 struct ima_verify_confirming {
     uint32_t by;
     struct ima_verify_bytes expected;
@@ -743,10 +748,10 @@ static inline struct ima_verify_confirming ima_verify_confirming_by(const struct
         IMA_VERIFY_IN((confirming).quoted.nonce_hex), IMA_VERIFY_IN((confirming).quoted.require), \
         (confirming).quoted.allow_sha1, (confirming).quoted.signature_checked
 
-/* What a machine booted, by its log, as `ima-agent boot` prints it: secure boot, firmware, images, commands, variables,
- * each confirmed or unknown; with neither `expected` nor `quoted` lines of what the log claims, each marked `claimed`.
- * `before`, if it is not NULL, is the log of an earlier boot, with which this one is compared; an error of a log may be
- * of either. IMA_VERIFY_DONE, or IMA_VERIFY_DIFFERS if the verdict by the quote is no match. */
+/* What a machine booted, by its log, as `ima-agent boot` prints it: Secure Boot, firmware, images, commands and
+ * variables, each confirmed or unknown. With neither `expected` nor `quoted` the lines have what the log claims, each
+ * marked `claimed`. `before`, if it is not NULL, is the log of an earlier boot to compare with; an error of a log may
+ * be about either. IMA_VERIFY_DONE, or IMA_VERIFY_DIFFERS if the verdict by the quote is not `match`. */
 IMA_VERIFY_USE_RESULT static inline enum ima_verify_result
 ima_verify_boot(struct ima_verify_bytes log, bool hcrtm, const struct ima_verify_bytes *before,
                 const struct ima_verify_bytes *expected, const struct ima_verify_quoted *quoted,
@@ -762,25 +767,25 @@ ima_verify_boot(struct ima_verify_bytes log, bool hcrtm, const struct ima_verify
         IMA_VERIFY_BY(confirming), form == IMA_VERIFY_JSON, IMA_VERIFY_OUT(output), &info));
 }
 
-/* Where lines of entries or events continue: all zero at first, and then what the last call set. Any other is not
- * looked into: what comes then says nothing about the bytes. */
+/* Where lines of entries or events continue: all zero at first, and then what the last call set. With any other
+ * position the lines say nothing about the bytes. */
 struct ima_verify_position {
-    /* How many bytes come before it, and how many entries or events. After the last line of entries as JSON `offset`
-     * is one more than the list has bytes. */
+    /* How many bytes come before it, and how many entries or events. After the last line of entries as JSON, `offset`
+     * is one more than the size of the list. */
     size_t offset;
     size_t number;
-    /* For events: which PCRs match, once that was asked (one more than the result). */
+    /* For events: which PCRs match. `asked` is one more than the result, and 0 before the first call. */
     int asked;
     size_t matching_size;
     uint8_t matching[IMA_VERIFY_MATCHING_CAPACITY];
 };
 
-/* The entries of a list from this position on, as many whole lines as fit: as text in the kernel's form, in which paths
- * are as they are and may have line feeds and control bytes, or as JSON, in which `genuine` is a member, and in which
- * the last line, `{"entries":N}`, says how many entries there are: without it the list was not read to its end. The
- * position is set to where the next call continues. IMA_VERIFY_MORE if there are more lines, and IMA_VERIFY_DONE at the
- * end. The line of an error comes by a call of its own, after the lines before it, with IMA_VERIFY_REFUSED. With
- * IMA_VERIFY_TOO_SHORT `size` is that of one line. */
+/* The entries of a list from this position on: as many whole lines as fit. The position is set to where the next call
+ * continues. As text the lines are the kernel's, in which paths are as they are, and may have line feeds and control
+ * bytes. As JSON they have the member `genuine`, and the last line, `{"entries":N}`, has the number of entries: without
+ * it the list was not read to its end. IMA_VERIFY_MORE if there are more lines, otherwise IMA_VERIFY_DONE. The line of
+ * an error is given by a call of its own, after the lines before it, with IMA_VERIFY_REFUSED. With IMA_VERIFY_TOO_SHORT
+ * `size` is that of one line. */
 IMA_VERIFY_USE_RESULT static inline enum ima_verify_result
 ima_verify_entries(struct ima_verify_bytes list, struct ima_verify_position *position, enum ima_verify_form form,
                    struct ima_verify_output *output) {
@@ -793,7 +798,7 @@ ima_verify_entries(struct ima_verify_bytes list, struct ima_verify_position *pos
         IMA_VERIFY_OUT(output), &info));
 }
 
-/* Asks which PCRs match, and keeps the answer in the position. The line of an error goes to the output. */
+/* Finds which PCRs match, and keeps the answer in the position. The line of an error goes to the output. */
 static inline enum ima_verify_result
 ima_verify_ask_matching(struct ima_verify_bytes log, bool hcrtm, struct ima_verify_confirming by,
                         struct ima_verify_position *position, struct ima_verify_output *output) {
@@ -812,10 +817,10 @@ ima_verify_ask_matching(struct ima_verify_bytes log, bool hcrtm, struct ima_veri
     return ima_verify_end(output, &info, result);
 }
 
-/* The algorithms that a log declares, and its events with their data, each as a line of JSON, from this position on,
- * as ima_verify_entries gives entries. With expected PCRs or a quote the events have the member `confirmed`: the first
- * call judges them, gives the line of an error (those of ima_verify_boot), and the last call returns
- * IMA_VERIFY_DIFFERS if the verdict by the quote is no match. Give each call the same. */
+/* The algorithms that a log declares, and its events with their data, each as a line of JSON, from this position on, as
+ * ima_verify_entries gives entries. With expected PCRs or a quote, which must be the same in each call, events have the
+ * member `confirmed`. The first call then judges them, and gives the line of an error (those of ima_verify_boot); the
+ * last call returns IMA_VERIFY_DIFFERS if the verdict by the quote is not `match`. */
 IMA_VERIFY_USE_RESULT static inline enum ima_verify_result
 ima_verify_events(struct ima_verify_bytes log, bool hcrtm, const struct ima_verify_bytes *expected,
                   const struct ima_verify_quoted *quoted, struct ima_verify_position *position,
@@ -841,8 +846,8 @@ ima_verify_events(struct ima_verify_bytes log, bool hcrtm, const struct ima_veri
 
 /* ---- errors */
 
-/* What an error means and what to do about it, in one or two English sentences. IMA_VERIFY_MISUSED for what is no error
- * of a call, such as IMA_VERIFY_NO_ERROR. The error may be that of the output. */
+/* What an error means and what to do about it, in one or two English sentences. The error may be that of the output.
+ * IMA_VERIFY_MISUSED if it is not an error of a call, such as IMA_VERIFY_NO_ERROR. */
 IMA_VERIFY_USE_RESULT static inline enum ima_verify_result
 ima_verify_error_text(const struct ima_verify_error *error, struct ima_verify_output *output) {
     struct ima_verify_info info;

@@ -1,8 +1,8 @@
-/* Verifies the signature of a quote's message by libcrypto, for keys by which libima_verify verifies none, such as those on P-521.
+/* Verifies a quote's signature with libcrypto, by keys that libima_verify does not accept, such as those on P-521.
  *
  * Optional: include it and link with -lcrypto (OpenSSL 1.1.1 or later). If the function returns `true`, give ima_verify_attest neither key nor
- * signature, and set `signature_checked`. Nothing of this is proved. A PEM does not say what a key signs: take that which ima_verify_key gives of
- * the machine's attestation key, whose public area is restricted, and the hash that it names there. */
+ * signature, and set `signature_checked`. Nothing here is proved. A PEM does not say what a key signs: use the PEM and the hash that ima_verify_key
+ * gives for the machine's attestation key, whose public area is restricted. */
 #ifndef IMA_VERIFY_EVP_H
 #define IMA_VERIFY_EVP_H
 
@@ -12,7 +12,7 @@
 #include <openssl/evp.h>
 #include <openssl/pem.h>
 
-/* Whether ECDSA with this hash is one by which a TPM signs quotes that are taken. */
+/* Whether ECDSA by this key with this hash is accepted for quotes. */
 static inline bool ima_verify_evp_is_taken(EVP_PKEY *key, const EVP_MD *hash) {
     int kind = EVP_MD_type(hash);
     return EVP_PKEY_base_id(key) == EVP_PKEY_EC && EVP_PKEY_bits(key) >= 256
@@ -25,7 +25,7 @@ static inline bool ima_verify_evp_signed(struct ima_verify_bytes pem, const char
                                          struct ima_verify_bytes message) {
     const EVP_MD *hash = EVP_get_digestbyname(hash_name);
     BIO *text = pem.size && pem.size <= INT_MAX ? BIO_new_mem_buf(pem.data, (int)pem.size) : NULL;
-    /* (an empty password, so that none is asked for at a terminal) */
+    /* (an empty password, so that no terminal is asked for one) */
     EVP_PKEY *key = text ? PEM_read_bio_PUBKEY(text, NULL, NULL, (void *)(uintptr_t) "") : NULL;
     EVP_MD_CTX *context = EVP_MD_CTX_new();
     bool is_signed = hash && key && context && signature.size && message.size && ima_verify_evp_is_taken(key, hash)

@@ -20,6 +20,10 @@ _END = re.compile(
 )
 
 
+# How many entries a report is on, and with a confirmed prefix how many of these are in it. (Before these members a report has no text.)
+_CONFIRMED = re.compile(r'"entries":(?P<entries>\d+),"confirmed":(?P<confirmed>\d+)[,}]')
+
+
 class Answered(NamedTuple):
     """A worker's answers on the first machines of a batch, and the seconds that they took it."""
 
@@ -33,8 +37,8 @@ class BadAnswers(Exception):
 
 
 def read_answers(text: str, machines: Sequence[Machine], asked: Asked) -> Answered:
-    """What `verify_batch` answered on these machines, where an answer that is not to be taken is TROUBLED, and says why. The numbers of unknown
-    entries are those of the report."""
+    """What `verify_batch` answered on these machines, where an answer that is not to be taken is TROUBLED, and says why. The numbers of entries that
+    are unknown or confirmed are those of the report."""
     first, *reports = text.split("\n")
     told = json.loads(first)
     answers: List[Fields] = told["answers"]
@@ -54,8 +58,9 @@ def read_answers(text: str, machines: Sequence[Machine], asked: Asked) -> Answer
 
 
 def _fault_of(answer: Fields, machine: Machine, asked: Asked) -> str:
-    """Why an answer is not to be taken, or an empty text, and then the answer has how many entries are unknown, and the first."""
+    """Why an answer is not to be taken, or an empty text: then the answer has how many entries are unknown, the first, and how many are confirmed."""
     verdict = answer["verdict"]
+    answer.pop("confirmed", None)
     if answer.pop("places") != list(machine.places):
         return "the worker's answer is on other files"
     if verdict in REPORTED:
@@ -78,6 +83,14 @@ def _fault_of_report(answer: Fields, asked: Asked) -> str:
         return "the worker's report is not by a quote" if asked.is_quoted else "the worker's report is by a quote"
     if verdict == "match" and end["quote"] == "differ":
         return "the worker's verdict is a match by a quote that differs"
+    prefix = _CONFIRMED.search(answer["report"])
+    if prefix is not None and not asked.prefix:
+        return "the worker's report is on a prefix"
+    if prefix is None and asked.prefix and verdict == "match":
+        return "the worker's report is not on a prefix"
+    answer["confirmed"] = None if prefix is None else int(prefix["confirmed"])
+    if prefix is not None:
+        answer["entries"] = int(prefix["entries"])
     if (end["unknown"] is not None) != (asked.known is not None):
         return "the worker's report is not by the known files" if asked.known is not None else "the worker's report is by known files"
     if end["unknown"] is not None:

@@ -7,16 +7,18 @@ from pathlib import Path
 from typing import Dict, FrozenSet, List, NamedTuple, Optional, Sequence, Tuple
 
 from .program import REFUSED, STOPPED, Line, Output, Reply, ask
-from .reading import FILES, QUOTED_FILES, cause_of, read_file
-from .schema import GOOD_AGGREGATES
+from .reading import FILES, QUOTED_FILES, read_file
 from .verdict import NOTHING_EXPECTED
+from .wording import words_of
 
 LOG, LIST, EXPECTED = FILES
 QUOTE, SIGNATURE = QUOTED_FILES[2:]
 KEY, BEFORE, QUOTED, SIGNED, NO_LIST = "key", "before.log", "quoted.txt", "signed.txt", "no.list"
-_OF_LIST = 10
+OF_LIST = 10
 # Which errors are the list's, after log, quote or expected registers were taken (docs/errors.txt).
 _OF_BROKEN_LIST = ("list", "replay")
+_AT_RESET = "at reset"
+EARLIER_EVENTS = f"events {BEFORE}"
 
 
 @dataclass(frozen=True)
@@ -61,16 +63,17 @@ class Criteria:
 
 
 class Input(NamedTuple):
-    """A file as it was read: its name, size and SHA-256, or why it was not."""
+    """A file as it was read: its name, size and SHA-256, or why it was not; and whether the machine that is judged sent it."""
 
     name: str
     size: int
     sha256: str
     fault: str
+    is_sent: bool = False
 
 
 class Reached(NamedTuple):
-    """A register: what was expected, what came of it, and where log and list first come to that value."""
+    """A register: what was expected, what came of it, and where log and list first come to that value: after how many entries, if with one."""
 
     bank: str
     number: int
@@ -78,6 +81,12 @@ class Reached(NamedTuple):
     expected: str
     value: str
     place: str
+    entries: int = 0
+
+    @property
+    def is_at_reset(self) -> bool:
+        """Whether this is a match of a register that nothing extended: it confirms nothing."""
+        return self.state == "match" and self.place == _AT_RESET
 
 
 class Judgement(NamedTuple):
@@ -99,6 +108,12 @@ class Judgement(NamedTuple):
         return "refused" if self.reply.status in (2, 4) and not self.reply.is_whole else "failed"
 
     @property
+    def is_on_prefix(self) -> bool:
+        """Whether entries follow those that the report is on, or bytes that are no entry."""
+        report = self.report
+        return "unconfirmed" in report or report.get("confirmed", report.get("entries")) != report.get("entries")
+
+    @property
     def is_list_broken(self) -> bool:
         """Whether log and quote or expected registers were read, and only the list is refused."""
         return self.word == "refused" and self.reply.kind in _OF_BROKEN_LIST
@@ -116,7 +131,7 @@ class Boot:
         has_other_quote: Whether there is a quote by which the boot was not judged.
         replies: What else the program says, by the command's name.
         is_confirming: Whether `events` and `boot` were asked for what is confirmed.
-        alone: A report on the log and no entry, where the list is broken.
+        alone: A report on the log and no entry, where the list is broken; or the registers that the log makes, where nothing is compared.
     """
 
     inputs: List[Input]
@@ -134,17 +149,24 @@ class Boot:
 
     @property
     def report(self) -> Line:
-        return self.judgement.report
+        """The report, if there is a verdict."""
+        return self.judgement.report if self.word in ("match", "differ") else {}
 
     @property
     def word(self) -> str:
         return self.judgement.word
 
     @property
-    def advice(self) -> List[str]:
-        """What the program says in words, of an error or of what to do next; and why a file was not read."""
-        unread = [f"{each.name} is not read: {each.fault}" for each in self.inputs if each.fault]
-        return [line for line in [*self.verdict.said.splitlines(), *unread] if line and line not in self.verdict.fault]
+    def look(self) -> str:
+        """As what the verdict is shown: a match by a quote, one that nobody signed, or no match."""
+        if self.word != "match" or self.faults:
+            return ""
+        return "match" if self.report.get("signature") == "valid" else "unquoted"
+
+    @property
+    def unread(self) -> List[Input]:
+        """The files that were not read."""
+        return [each for each in self.inputs if each.fault]
 
     @property
     def faults(self) -> Dict[str, str]:
@@ -169,35 +191,21 @@ class Boot:
         report = self.proof.report
         rows = [(row["bank"], row["register"]) for row in report.get("registers", [])]
         rows += [(row["bank"], number) for row in report.get("quoted", []) for number in row["registers"]]
-        if self.proof.word != "match" or not self.is_required or all(bank == "sha1" for bank, number in rows if number == _OF_LIST):
+        if self.proof.word != "match" or not self.is_required or all(bank == "sha1" for bank, number in rows if number == OF_LIST):
             return 0
         return int(report.get("confirmed", report["entries"]))
-
-    @property
-    def reasons(self) -> List[str]:
-        """Why the verdict is not match, by its report."""
-        reasons = [f"{row.bank} PCR {row.number}: {row.state}" for row in self.registers if row.state != "match"] if self.report else []
-        if self.report.get("boot_aggregate", "good") not in GOOD_AGGREGATES:
-            reasons.append(f"The boot aggregate is {self.report['boot_aggregate']}.")
-        if self.report.get("quote") == "differ":
-            reasons.append("Log and list do not make the quoted PCRs.")
-        if self.unknown:
-            count, first = len(self.unknown), self.unknown[0]
-            reasons.append(f"Entry {first} is unknown." if count == 1 else f"Unknown entries: {count}, the first is entry {first}.")
-        for row in self.report.get("extends", []):
-            kind = "event" if "event" in row else "entry"
-            reasons.append(f"Log and list are not apart: {kind} {row[kind]} extends PCR {row['register']}.")
-        return reasons
 
     @property
     def registers(self) -> List[Reached]:
         """The registers of the report, or those that the log makes alone: register 10, which is the list's, is none of these."""
         report = self.report or self.alone
         lines = self.replies["locate"].lines if "locate" in self.replies else []
-        places = {(row["bank"], row["register"]): _place(row, report.get("entries", 0)) for line in lines for row in line["registers"]}
-        rows = {(row["bank"], row["register"]): row for row in report.get("registers", []) if self.report or row["register"] != _OF_LIST}
+        places = {(row["bank"], row["register"]): row for line in lines for row in line["registers"]}
+        rows = {(row["bank"], row["register"]): row for row in report.get("registers", []) if self.report or row["register"] != OF_LIST}
+        count = report.get("entries", 0)
         return [
-            Reached(*name, row.get("state", ""), row.get("expected", ""), row.get("value", ""), places.get(name, "")) for name, row in rows.items()
+            Reached(*name, row.get("state", ""), row.get("expected", ""), row.get("value", ""), *_place(places.get(name, {}), count))
+            for name, row in rows.items()
         ]
 
 
@@ -208,22 +216,24 @@ def covered(count: int, total: int) -> str:
     return {0: f"none of {total} entries", 1: f"the first of {total} entries"}.get(count, f"the first {count} of {total} entries")
 
 
-def _place(row: Line, entries: int) -> str:
-    """Where a register has its value first."""
+def _place(row: Line, entries: int) -> Tuple[str, int]:
+    """Where a register has its value first, and after how many entries, if with one."""
     place, number = str(row.get("place", "")), row.get("number", 0)
-    return {"reset": "at reset", "event": f"after event {number}", "entry": f"after {covered(number + 1, entries)}"}.get(place, place)
+    if place == "entry":
+        return f"after {covered(number + 1, entries)}", number + 1
+    return {"reset": _AT_RESET, "event": f"after event {number}"}.get(place, place), 0
 
 
-def copy(path: Path, place: Path, is_sent: bool) -> Input:
+def copy(path: Path, place: Path, is_sent: bool, name: str = "") -> Input:
     """Copies a regular file, of which no more is read than the program takes: all replies then are on the same bytes. One that a machine sent
     is no link, as that could be to any file of this computer."""
     try:
         data = read_file(str(path), follow_symlinks=not is_sent)
     except OSError as fault:
-        return Input(path.name, 0, "", cause_of(fault, str(path)))
+        return Input(name or path.name, 0, "", words_of(fault))
     assert data is not None
     place.write_bytes(data)
-    return Input(path.name, len(data), hashlib.sha256(data).hexdigest(), "")
+    return Input(name or path.name, len(data), hashlib.sha256(data).hexdigest(), "")
 
 
 def _copied(folder: Path, criteria: Criteria, work: Path) -> Tuple[List[Input], List[Input]]:
@@ -231,9 +241,17 @@ def _copied(folder: Path, criteria: Criteria, work: Path) -> Tuple[List[Input], 
     sent = list(QUOTED_FILES if criteria.is_quoted else FILES)
     if criteria.is_quoted and os.path.lexists(folder / EXPECTED):
         sent.append(EXPECTED)
-    own = [(path, name) for path, name in ((criteria.key, KEY), (criteria.before, BEFORE)) if path is not None]
-    own += [(path, f"known{number}") for number, path in enumerate(criteria.known)]
-    return [copy(folder / name, work / name, True) for name in sent], [copy(Path(path), work / name, False) for path, name in own]
+    own = [] if criteria.key is None else [copy(Path(criteria.key), work / KEY, False)]
+    own += [] if criteria.before is None else [_copied_earlier(Path(criteria.before), work / BEFORE)]
+    own += [copy(Path(path), work / f"known{number}", False) for number, path in enumerate(criteria.known)]
+    return [copy(folder / name, work / name, True)._replace(is_sent=True) for name in sent], own
+
+
+def _copied_earlier(path: Path, place: Path) -> Input:
+    """Copies the log of an earlier boot: a file that the operator names, or that of a folder, which a machine sent."""
+    if not path.is_dir():
+        return copy(path, place, False)
+    return copy(path / LOG, place, True, f"{Path(os.path.abspath(path)).name}/{LOG}")
 
 
 def boot_of(folder: Path, criteria: Criteria, work: Path) -> Boot:
@@ -272,7 +290,7 @@ def _confirming(boot: Boot, criteria: Criteria, work: Path) -> List[str]:
     report = boot.proof.report
     if boot.proof.word != "match":
         return []
-    if report.get("confirmed", report["entries"]) == report["entries"]:
+    if not boot.proof.is_on_prefix:
         return [f"--quote={QUOTE}", f"--list={LIST}", *criteria.signed, *criteria.bound, *criteria.requirement]
     if report.get("expected") != "confirmed":
         return []
@@ -303,17 +321,22 @@ def _confirm(boot: Boot, criteria: Criteria, work: Path) -> None:
     boot.is_confirming = bool(confirming)
     if boot.proof is not boot.judgement and not boot.proof.reply.is_whole:
         boot.replies["verify"] = boot.proof.reply
-    if boot.judgement.is_list_broken:
-        listed = NO_LIST
-        (work / NO_LIST).touch()
-        command, *names = ("registers", LOG) if criteria.is_quoted else ("verify", LOG, NO_LIST, EXPECTED)
+    if not boot.report:
+        command, *names = "registers", LOG
+        if boot.judgement.is_list_broken:
+            listed = NO_LIST
+            (work / NO_LIST).touch()
+            command, *names = (command, *names) if criteria.is_quoted else ("verify", LOG, NO_LIST, EXPECTED)
         boot.alone = Judgement(asking(command, *criteria.replayed, "--", *names, statuses=(0, 1))).report
     if not criteria.is_quoted or boot.report.get("expected") == "confirmed":
         asking("locate", *criteria.requirement, *criteria.replayed, "--", LOG, listed, EXPECTED, statuses=(0, 1))
     before = [] if criteria.before is None else [f"--before={BEFORE}"]
     confirming += criteria.replayed
-    asking("boot", *confirming, *before, "--", LOG, output=Output(criteria.most))
+    asking("boot", *confirming, *before, "--", LOG, output=Output(criteria.most, lambda line: "register" in line and "command" not in line))
     asking("events", *confirming, "--", LOG, output=Output(criteria.most + 1))
+    if (work / BEFORE).exists():
+        words = [criteria.program, "events", "--json", "--", BEFORE]
+        boot.replies[EARLIER_EVENTS] = ask(words, work, criteria.seconds, Output(criteria.most + 1))
     unknown = frozenset(boot.unknown)
     asking("show", "--", LIST, output=Output(criteria.most, lambda line: _is_notable(line, unknown), is_counted=True))
 

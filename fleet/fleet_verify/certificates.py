@@ -5,7 +5,7 @@ Which bytes are a certificate the program says, by their SHA-256: nothing here i
 import hashlib
 import struct
 import warnings
-from typing import Any, Dict, Iterator
+from typing import Any, Dict, Iterator, NamedTuple, Sequence
 
 from .program import Line
 
@@ -13,6 +13,38 @@ from .program import Line
 _GUID, _SIZES = 16, struct.Struct("<3I")
 _HEAD = _GUID + _SIZES.size
 SAYS, UNREAD, LACKING = "read from the certificate", "cannot be read", "not read: the package cryptography is not installed"
+
+
+class Certificate(NamedTuple):
+    """A certificate in an event: in which variable, whom it names, its fingerprint, and which part of the event is confirmed."""
+
+    variable: str
+    subject: str
+    fingerprint: str
+    type: str
+    mark: str
+    event: int
+    register: int
+
+
+def certificates_in(events: Sequence[Line]) -> Iterator[Certificate]:
+    """The certificates in the variables of events, whose content has their names."""
+    for event in events:
+        variable = event["content"].get("variable")
+        for each in _certificates(variable) if isinstance(variable, dict) else ():
+            named, kind = each.get(SAYS, UNREAD), str(event.get("type", event["type_number"]))
+            subject = named["subject"] if isinstance(named, dict) else named
+            name = str(variable.get("name", variable.get("name_hex", "")))
+            yield Certificate(name, subject, each["sha256"], kind, str(event.get("confirmed", "none")), event["event"], event["register"])
+
+
+def _certificates(value: Any) -> Iterator[Line]:
+    """What the program calls a certificate, which has a fingerprint and a size."""
+    if isinstance(value, dict) and {"sha256", "size"} <= value.keys():
+        yield value
+    elif isinstance(value, (dict, list)):
+        for each in value.values() if isinstance(value, dict) else value:
+            yield from _certificates(each)
 
 
 def with_names(content: Line) -> Line:

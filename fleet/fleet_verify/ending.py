@@ -8,8 +8,8 @@ from contextlib import contextmanager
 from typing import Any, Iterator, TextIO
 
 SIGNALS = (signal.SIGINT, signal.SIGTERM)
-STOPPED = "stopped: {}; the same command goes on"
-SIGNALLED = "a signal came"
+STOPPED = "stopped: {}; run the same command again to resume"
+SIGNALLED = "by a signal"
 
 
 class CannotGoOn(Exception):

@@ -3,7 +3,7 @@
 import hashlib
 from typing import NamedTuple, Sequence, Tuple
 
-from .reading import MOST_BYTES, read_file
+from .reading import MOST_BYTES, cause_of, read_file
 
 
 class BadKnown(Exception):
@@ -40,7 +40,7 @@ def _lines_of(path: str) -> bytes:
     try:
         text = read_file(path, follow_symlinks=True)
     except OSError as fault:
-        raise BadKnown(f"{path}: {fault}") from None
+        raise BadKnown(f"{path}: {cause_of(fault)}") from None
     assert text is not None
     if len(text) > MOST_BYTES:
         raise BadKnown(f"{path}: it has more than {MOST_BYTES} bytes")

@@ -24,7 +24,7 @@ def main(words: Optional[Sequence[str]] = None) -> int:
         status: int = import_module(f".{words[0]}", __package__).main(words[1:])
         return status
     if words and (meant := nearest_command(words)):
-        return complain(f"refused: there is no command {words[0]!r}, but {meant!r}", 2)
+        return complain(f"refused: there is no command {words[0]!r}: did you mean {meant!r}? (`fleet-verify {meant} --help`)", 2)
     from .options import options_of
     from .summary import Summary
 
@@ -60,9 +60,10 @@ def run_status(options: "Options", summary: "Summary") -> int:
 def noted(path: str, summary: "Summary", table: str) -> int:
     """The exit status of a run in this table, whose metrics are written to this file: no success if they are not."""
     from .metrics import write_metrics
+    from .reading import cause_of
 
     try:
         write_metrics(path, summary, table)
     except OSError as fault:
-        return complain(f"the metrics are not written: {fault}", summary.status or 3)
+        return complain(f"the metrics are not written: {path}: {cause_of(fault)}", summary.status or 3)
     return summary.status

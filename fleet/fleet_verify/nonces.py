@@ -13,16 +13,16 @@ from typing import Dict, List, Sequence
 from .ending import NotStarted, complain, telling
 from .machines import BadTable, Machine, read_machines
 from .opening import BadVerdicts, open_table
-from .options import Once, duration
+from .options import Once, Parser, duration
 from .reading import cause_of, now
 
-ABOUT = """Gives out a nonce for each machine of MACHINES, for its next quote.
+ABOUT = """Gives out a nonce to each machine in MACHINES, for its next quote.
 
 fleet-verify nonces [OPTION].. MACHINES TABLE
 
-MACHINES is the table of machines, and TABLE the table of verdicts, which is made if it is not there. It keeps the nonces, and until when
-each is valid: a run with this TABLE takes a quote with one of them, and takes each once. A machine whose nonce is unused, and young
-enough, has no other. Without --folder each machine's name and its nonce go to standard output, with a tab between."""
+MACHINES lists the machines, and TABLE is the table of verdicts, which is created if it is missing. It keeps each nonce and how long that
+is valid. A run with this TABLE accepts a quote of one of these nonces, and each nonce once. A machine keeps a nonce that is unused and
+recent enough. Without --folder each machine's name and nonce go to standard output, separated by a tab."""
 
 BYTES = 32
 # How many seconds after its nonce was given out a quote may come, unless --max-age says otherwise.
@@ -37,19 +37,17 @@ YOUNG = "SELECT machine, nonce FROM nonces WHERE used IS NULL AND max_age = :age
 
 
 def options_of(words: Sequence[str]) -> argparse.Namespace:
-    parser = argparse.ArgumentParser(
-        prog="fleet-verify nonces", description=ABOUT, formatter_class=argparse.RawDescriptionHelpFormatter, usage=argparse.SUPPRESS
-    )
+    parser = Parser("fleet-verify nonces", ABOUT)
     parser.add_argument(
-        "--folder", metavar="FOLDER", action=Once, help="write each machine's nonce into a file of FOLDER that has the machine's name",
+        "--folder", metavar="FOLDER", action=Once, help="write each machine's nonce to a file in FOLDER with the machine's name",
     )
     parser.add_argument(
         "--max-age", metavar="AGE", action=Once, type=duration,
-        help="how long each nonce is valid, as 3600, 90m, 1h or 2d; from half of this age on another is given out (default: 1h)",
+        help="how long each nonce is valid, such as 3600, 90m, 1h or 2d; after half that time a new one is given out (default: 1h)",
     )
-    parser.add_argument("machines", metavar="MACHINES", help="the table of machines")
+    parser.add_argument("machines", metavar="MACHINES", help="the list of machines")
     parser.add_argument("table", metavar="TABLE", help="the table of verdicts")
-    return parser.parse_args(words)
+    return parser.parse(words)
 
 
 def earlier(time: str, seconds: float) -> str:
@@ -86,7 +84,7 @@ def write_files(folder: Path, given: Dict[str, str]) -> List[str]:
         try:
             write_file(folder / name, f"{nonce}\n")
         except OSError as fault:
-            faults.append(f"{name}: {fault}")
+            faults.append(f"{name}: {cause_of(fault)}")
     return faults
 
 
@@ -109,13 +107,15 @@ def hand_out(words: Sequence[str]) -> int:
     try:
         machines = read_machines(options.machines, is_quoted=True)
     except (OSError, BadTable) as fault:
-        raise NotStarted(f"{options.machines}: {fault}") from None
+        told = cause_of(fault) if isinstance(fault, OSError) else fault
+        raise NotStarted(f"{options.machines}: {told}") from None
     if options.folder is not None:
         require_files(machines)
     try:
         connection = open_table(options.table)
     except (OSError, sqlite3.Error, BadVerdicts) as fault:
-        raise NotStarted(f"{options.table}: {fault}") from None
+        told = cause_of(fault) if isinstance(fault, OSError) else fault
+        raise NotStarted(f"{options.table}: {told}") from None
     with closing(connection):
         given = give_out(connection, machines, options.max_age or MAX_AGE)
     if options.folder is None:
@@ -123,7 +123,7 @@ def hand_out(words: Sequence[str]) -> int:
             output.write("".join(f"{name}\t{nonce}\n" for name, nonce in given.items()))
         return 0
     faults = write_files(Path(options.folder), given)
-    return complain(f"stopped: {len(faults)} nonces could not be written: {faults[0]}", 3) if faults else 0
+    return complain(f"stopped: {len(faults)} nonces could not be written; the first: {faults[0]}", 3) if faults else 0
 
 
 def main(words: Sequence[str]) -> int:

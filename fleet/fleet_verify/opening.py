@@ -9,6 +9,7 @@ from typing import FrozenSet, Tuple
 from . import quotes
 from .reading import require_regular
 from .schema import APPLICATION, FORM, TABLES
+from .wording import ABSENT, words_of
 
 # How long the lock of another is waited for.
 SECONDS = 60
@@ -35,7 +36,7 @@ def connected(path: str, mode: str) -> sqlite3.Connection:
             with suppress(FileNotFoundError):
                 require_regular(os.stat(f"{place}{ending}"))
     except OSError as fault:
-        raise BadVerdicts(str(fault)) from None
+        raise BadVerdicts(words_of(fault)) from None
     return sqlite3.connect(f"{place.as_uri()}?mode={mode}", uri=True, timeout=SECONDS, check_same_thread=False)
 
 
@@ -97,6 +98,8 @@ def open_table(path: str) -> sqlite3.Connection:
 
 def open_snapshot(path: str) -> sqlite3.Connection:
     """The table of verdicts in this file as it is at one moment, to be read only."""
+    if not os.path.exists(path):
+        raise BadVerdicts(f"{ABSENT}: a run, or `fleet-verify nonces`, makes it")
     connection = connected(path, "ro")
     try:
         connection.execute("PRAGMA query_only = ON")

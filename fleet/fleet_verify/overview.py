@@ -1,35 +1,40 @@
 """What a page shows of a table of verdicts: read at one moment, also while a run writes, and nothing is written."""
 
 import json
+import re
 import sqlite3
 from collections import Counter
 from contextlib import closing, contextmanager
 from dataclasses import dataclass, field
 from datetime import datetime, timedelta, timezone
-from typing import Dict, Iterable, Iterator, List, NamedTuple, Optional, Sequence, Tuple
+from typing import Any, Dict, Iterable, Iterator, List, NamedTuple, Optional, Sequence, Tuple
 
 from .opening import BadVerdicts, open_snapshot
 from .plot import Bar, bars_of
 from .rendering import text_of_bytes, time_span
-from .schema import GOOD_AGGREGATES, VERDICTS
+from .schema import VERDICTS
+from .wording import bank_name, without_place
 
 _SECONDS = 60
 _MOST_CHANGES = 500
 _MOST_GROUPS = 50
 _MOST_NAMES = 10
+# Of how many PCRs a machine's row shows the values.
+_MOST_VALUES = 3
 _AGES = ((60, "less than a minute"), (600, "less than 10 minutes"), (3600, "less than an hour"), (86400, "less than a day"))
 
 _PROBLEMS = """
-SELECT machine, verdict, cause, boot_aggregate, unknown, first_unknown, time, poll,
-    json_extract(report, '$.extends') AS extends, json_extract(report, '$.quote') AS quote
-FROM verdicts WHERE verdict <> 'match' ORDER BY machine
+SELECT machine, verdict, cause, reason, unknown, first_unknown, time, matched, poll, json_extract(report, '$.extends') AS extends
+FROM verdicts WHERE verdict <> 'match'
 """
 _REGISTERS = """
 SELECT machine, algorithm, register, state, expected, value FROM registers
 WHERE state <> 'match' AND machine IN (SELECT machine FROM verdicts WHERE verdict = 'differ') ORDER BY machine, algorithm, register
 """
+_PREFIXES = "SELECT machine, confirmed, entries FROM prefixes"
+_MATCHING = "SELECT machine, matched FROM verdicts WHERE verdict = 'match'"
 _UNQUOTED = "SELECT count(*) FROM verdicts WHERE verdict = 'match' AND signer IS NULL"
-_RETIRED = "SELECT machine, retired FROM retired ORDER BY machine, retired"
+_RETIRED = "SELECT machine, retired FROM retired ORDER BY retired"
 _LATE = "SELECT count(*) FROM verdicts WHERE poll IS NOT ? AND (poll IS NULL OR poll < ?)"
 _SINCE = "SELECT machine, time, max(number) FROM changes WHERE kind = 'verdict' GROUP BY machine"
 # (the first row of a machine is no change: it had no verdict before. Once old rows are gone, that cannot be told.)
@@ -40,12 +45,17 @@ WHERE kind <> 'verdict' OR (SELECT min(number) > 1 FROM changes)
 """
 _ALIKE = """
 SELECT list_sha256, machine FROM verdicts
-WHERE list_from = 0 AND list_sha256 IN (SELECT list_sha256 FROM verdicts WHERE list_from = 0 GROUP BY 1 HAVING count(*) > 1) ORDER BY machine
+WHERE list_from = 0 AND list_sha256 IN (SELECT list_sha256 FROM verdicts WHERE list_from = 0 GROUP BY 1 HAVING count(*) > 1)
 """
 _SIGNERS = """
 SELECT signer, machine FROM verdicts
-WHERE signer IN (SELECT signer FROM verdicts GROUP BY 1 HAVING count(*) > 1) ORDER BY machine
+WHERE signer IN (SELECT signer FROM verdicts GROUP BY 1 HAVING count(*) > 1)
 """
+
+
+def natural(name: str) -> Tuple[Any, str]:
+    """By what names are sorted as people do: host-2 comes before host-10."""
+    return tuple(int(part) if part.isdecimal() else part for part in re.split(r"(\d+)", name)), name
 
 
 class Register(NamedTuple):
@@ -65,7 +75,9 @@ class Problem:
     machine: str
     verdict: str
     cause: Optional[str]
+    reason: str
     time: str
+    matched: Optional[str]
     poll: Optional[int]
     facts: List[str] = field(default_factory=list)
     registers: List[Register] = field(default_factory=list)
@@ -73,11 +85,22 @@ class Problem:
 
     @property
     def why(self) -> str:
-        """What it has in common with other machines: its cause, or what differs."""
-        if self.cause is not None:
-            return self.cause.rstrip("0123456789") if " fault " in self.cause and " at " in self.cause else self.cause
-        kinds = [fact.partition(":")[0] for fact in self.facts]
-        return ", ".join([*kinds, *(f"{row.bank} {row.number} {row.state}" for row in self.registers)]) or self.verdict
+        """What it has in common with other machines: its reason, without what is only this machine's."""
+        return without_place(self.reason)
+
+    @property
+    def line(self) -> Optional[str]:
+        """The line of a refusal, by which errors.txt has it."""
+        return self.cause if self.cause is not None and self.cause.startswith("refused: ") else None
+
+    @property
+    def values(self) -> Sequence[Register]:
+        """The PCRs of which another value than the expected one is shown."""
+        return [row for row in self.registers if row.value][:_MOST_VALUES]
+
+    @property
+    def more_values(self) -> int:
+        return sum(row.value is not None for row in self.registers) - len(self.values)
 
 
 class Group(NamedTuple):
@@ -90,6 +113,14 @@ class Group(NamedTuple):
     @property
     def first(self) -> Sequence[str]:
         return self.machines[:_MOST_NAMES]
+
+
+class Prefix(NamedTuple):
+    """A match that does not cover the whole list: how many first entries it does, and of how many."""
+
+    machine: str
+    confirmed: int
+    entries: int
 
 
 class Change(NamedTuple):
@@ -144,7 +175,8 @@ class Overview:
     alike: List[Group]
     changes: List[Change]
     bars: List[Bar]
-    matching: List[str]
+    matching: List[Tuple[str, Optional[str]]]
+    prefixes: List[Prefix]
 
     @property
     def machines(self) -> int:
@@ -170,12 +202,17 @@ def overview_of(connection: sqlite3.Connection, most_age: int) -> Overview:
     _require_verdicts(counts)
     problems = _problems(connection)
     return Overview(
-        _state(connection, counts, most_age), counts, _number(connection, _UNQUOTED), list(connection.execute(_RETIRED)), problems,
+        _state(connection, counts, most_age), counts, _number(connection, _UNQUOTED), _by_name(connection.execute(_RETIRED)), problems,
         _reasons(problems), _registers(problems), _quotes(connection), _groups("", connection.execute(_ALIKE)),
         _changes(connection),
         bars_of(list(connection.execute("SELECT number, time FROM polls ORDER BY number")), connection.execute(_BY_POLL)),
-        [name for name, in connection.execute("SELECT machine FROM verdicts WHERE verdict = 'match' ORDER BY machine")],
+        _by_name(connection.execute(_MATCHING)), [Prefix(*row) for row in _by_name(connection.execute(_PREFIXES))],
     )
+
+
+def _by_name(rows: Iterable[Any]) -> List[Any]:
+    """Rows of machines, by their names."""
+    return sorted(rows, key=lambda row: natural(row[0]))
 
 
 def _require_verdicts(verdicts: Iterable[str]) -> None:
@@ -235,22 +272,20 @@ def _problems(connection: sqlite3.Connection) -> List[Problem]:
     """The machines that do not match, with their reasons."""
     since = {machine: time for machine, time, _ in connection.execute(_SINCE)}
     problems = {}
-    for machine, verdict, cause, aggregate, unknown, first, time, poll, extends, quote in connection.execute(_PROBLEMS):
-        facts = [*_facts(aggregate, quote, extends), *([f"unknown entries: {unknown}, the first is entry {first}"] if unknown else [])]
-        problems[machine] = Problem(machine, verdict, cause, time, poll, facts, since=since.get(machine))
+    for machine, verdict, cause, reason, unknown, first, time, matched, poll, extends in connection.execute(_PROBLEMS):
+        told = reason or cause or "No reason is known."
+        problems[machine] = Problem(machine, verdict, cause, told, time, matched, poll, _facts(extends, unknown, first), since=since.get(machine))
     for machine, *row in connection.execute(_REGISTERS):
         problems[machine].registers.append(Register(*row))
-    return sorted(problems.values(), key=lambda problem: VERDICTS.index(problem.verdict))
+    return sorted(problems.values(), key=lambda problem: (VERDICTS.index(problem.verdict), natural(problem.machine)))
 
 
-def _facts(aggregate: Optional[str], quote: Optional[str], extends: Optional[str]) -> List[str]:
-    """What a report says besides its registers: what all machines share, and after a colon what is this one's."""
-    facts = [f"boot aggregate {aggregate}"] if aggregate not in (None, *GOOD_AGGREGATES) else []
-    if quote == "differ":
-        facts.append("log and list do not make the quoted PCRs")
+def _facts(extends: Optional[str], unknown: Optional[int], first: Optional[int]) -> List[str]:
+    """Where a report finds what its machine's reason says."""
+    facts = [f"unknown entries: {unknown}, the first is entry {first}"] if unknown else []
     for row in json.loads(extends or "[]"):
         kind = "event" if "event" in row else "entry"
-        facts.append(f"an {kind} extends PCR {row['register']}: {kind} {row[kind]}")
+        facts.append(f"{kind} {row[kind]} extends PCR {row['register']}")
     return facts
 
 
@@ -259,7 +294,8 @@ def _groups(verdict: str, rows: Iterator[Tuple[str, str]]) -> List[Group]:
     machines: Dict[str, List[str]] = {}
     for title, machine in rows:
         machines.setdefault(title, []).append(machine)
-    return sorted((Group(verdict, title, names) for title, names in machines.items()), key=lambda group: -len(group.machines))
+    groups = [Group(verdict, title, sorted(names, key=natural)) for title, names in machines.items()]
+    return sorted(groups, key=lambda group: (-len(group.machines), natural(group.machines[0])))
 
 
 def _reasons(problems: Sequence[Problem]) -> List[Group]:
@@ -273,8 +309,7 @@ def _reasons(problems: Sequence[Problem]) -> List[Group]:
 def _registers(problems: Sequence[Problem]) -> List[Group]:
     """The machines of each register that does not match, with the value that it has instead."""
     return _groups("differ", (
-        (f"{row.bank} {row.number} {row.state}{f' {row.value}' if row.value else ''}", problem.machine)
-        for problem in problems for row in problem.registers
+        (f"{bank_name(row.bank)} PCR {row.number}: {row.value}", problem.machine) for problem in problems for row in problem.registers if row.value
     ))[:_MOST_GROUPS]
 
 

@@ -1,5 +1,6 @@
 """What the verifier has for quotes: the machines' keys, and the nonces that it gave out, each for one verdict."""
 
+import os
 import sqlite3
 from datetime import datetime
 from typing import Optional, Sequence, Tuple
@@ -31,7 +32,8 @@ TOO_OLD = "stale: the nonce of its quote is older than --max-age, or of a time t
 NO_LONGER = "stale: another verdict used the nonce of its quote, or it is given out no longer"
 
 _OF_VERDICT = (
-    "report", "checkpoint", "events", "locality", "entries", "boot_aggregate", "unknown", "first_unknown", "signer", "nonce", "resets", "restarts",
+    "report", "checkpoint", "events", "locality", "entries", "confirmed", "boot_aggregate", "unknown", "first_unknown", "signer", "nonce", "resets",
+    "restarts",
 )
 
 
@@ -52,6 +54,14 @@ def key_of(folder: str, name: str) -> Tuple[Optional[str], Optional[str]]:
             return None, f"no key: {shown} has more than {MOST_KEY_BYTES} bytes"
         return text.decode("latin-1"), None
     return None, None
+
+
+def key_path(folder: str, name: str) -> Optional[str]:
+    """Where `key_of` finds the key of the machine of this name, if the folder has it."""
+    if "/" in name or name in (".", ".."):
+        return None
+    paths = (os.path.abspath(f"{folder}/{shown.replace('NAME', name)}") for shown in KEY_FILES)
+    return next((path for path in paths if os.path.lexists(path)), None)
 
 
 def nonces_of(connection: sqlite3.Connection, name: str) -> Tuple[Tuple[str, bool], ...]:

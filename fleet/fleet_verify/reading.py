@@ -10,6 +10,8 @@ from datetime import datetime, timezone
 from functools import partial
 from typing import Any, Callable, Dict, List, Optional, Sequence, Tuple
 
+from .wording import LATE, LINK, NOT_REGULAR, printable, words_of
+
 # What is read of a machine, and the files of these in its folder: without a quote, and with one.
 PARTS = ("log", "list", "expected")
 FILES = ("firmware.log", "ima.list", "expected.txt")
@@ -17,12 +19,8 @@ QUOTED_PARTS = ("log", "list", "quote", "signature")
 QUOTED_FILES = ("firmware.log", "ima.list", "quote.msg", "quote.sig")
 MOST_BYTES = 64 * 1024 * 1024
 PIECE = 64 * 1024
-MOST_CAUSE = 1000
 
-# Why a file is not read, or not to its end.
-NOT_REGULAR = "it is no regular file"
-LINK = "it is a symbolic link"
-LATE = "no answer in time"
+# Why a list is not read.
 STALE = "stale: list"
 
 Fields = Dict[str, Any]
@@ -41,14 +39,9 @@ def paths_of(places: Sequence[str], is_quoted: bool = False) -> Sequence[str]:
 
 
 def cause_of(fault: BaseException, path: str = "") -> str:
-    """An exception as text that SQLite takes and a terminal shows: what a store answers may be hostile. The path stands in the machine's row:
+    """An exception in words that SQLite takes and a terminal shows: what a store answers may be hostile. The path is in the machine's row:
     without it, one cause reads the same everywhere."""
-    text = str(fault)
-    if isinstance(fault, OSError) and fault.errno is not None and fault.strerror:
-        text = f"[Errno {fault.errno}] {fault.strerror}"
-    text = without_path(text, path)
-    named = f"{type(fault).__name__}: {text}" if text else type(fault).__name__
-    return "".join(letter if letter.isprintable() else "?" for letter in named[:MOST_CAUSE])
+    return printable(words_of(fault, partial(without_path, path=path)))
 
 
 def without_path(text: str, path: str) -> str:

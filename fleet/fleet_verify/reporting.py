@@ -8,20 +8,27 @@ from pathlib import Path
 from typing import Any, NamedTuple, Optional, Sequence, Tuple
 
 from . import __version__
-from .boot import Boot, Criteria, boot_of, covered
-from .certificates import with_names
+from .boot import EARLIER_EVENTS, Boot, Criteria, boot_of, covered
+from .certificates import certificates_in, with_names
+from .comparison import compare
 from .ending import SIGNALS
+from .field_names import in_words, pcr, pcrs
+from .guidance import Call, is_coded, next_steps, reasons
 from .options import HCRTM, OLD_KERNEL, Once, positive
-from .program import STOPPED, Line, NoProgram, program_of
+from .program import STOPPED, Line, NoProgram, Reply, program_of
 from .reading import cause_of, now
 from .rendering import render, write_page
 from .verdict import NONE
 
-ABOUT = """Writes a page of HTML to standard output: the verdict on one boot, its PCRs, what it booted, each event of its log with what it says
-and whether that is confirmed, and each entry of its list with whether it is known.
+ABOUT = """Writes a page of HTML to standard output: the verdict on one boot with its reason and what to do next, unknown files, the PCRs, what
+the machine booted, each event of its log with what it says and whether that is confirmed, and each entry of its list.
 
 FOLDER has firmware.log, ima.list, and expected.txt. With --key and --nonce the boot is judged by a quote: FOLDER has quote.msg and
-quote.sig, and expected.txt may be there. Without them nobody signed the expected registers. No link, pipe or device there is read.
+quote.sig, and expected.txt may be there. Without them nobody signed the expected PCRs, and a match says so. No link, pipe or device
+there is read. If a file is not whole, the page shows what comes before the error.
+
+EARLIER is the folder of an earlier boot, as collected, or its log. The page then has both boots side by side, PCR by PCR. Nothing
+confirms the earlier log.
 
 The verdict is that of the program ima-agent. The page is whole: it loads nothing.
 
@@ -48,15 +55,6 @@ class Booted(NamedTuple):
         return _UNKNOWN if self.claimed is None else "claimed"
 
 
-class Difference(NamedTuple):
-    """A line on what differs from an earlier boot."""
-
-    register: str
-    what: str
-    digest: str
-    claimed: Any
-
-
 def booted(line: Line) -> Booted:
     """A line of `ima-agent boot`, of which the first member says what it is about."""
     what, value = next(iter(line.items()))
@@ -68,7 +66,7 @@ def booted(line: Line) -> Booted:
         return Booted(title, line.get("digests"), _image(line.get("claimed")), event)
     if what == "command":
         text = line.get("text", line.get("text_hex"))
-        return Booted(f"{title}, PCR {_register(line)}", text if value != _UNKNOWN else None, line.get("claimed"), event)
+        return Booted(f"{title}, PCR {pcr(line['register'])}", text if value != _UNKNOWN else None, line.get("claimed"), event)
     if what == "boot_variable" and value != _UNKNOWN:
         return Booted(title, *_variable(line["content"]), event)
     if what == "ima_policy":
@@ -85,13 +83,8 @@ def _claim(claim: Any) -> Booted:
     if what == "image":
         value = {**claim.get("digests", {}), **_image(value)}
     if what == "command":
-        title = f"{title}, PCR {_register(claim)}"
-    return Booted(title, None, with_names(value) if isinstance(value, dict) else value, claim.get("event"))
-
-
-def _register(line: Line) -> str:
-    """A PCR with its name, if it has one."""
-    return f"{line['register']} ({line['register_name']})" if "register_name" in line else str(line["register"])
+        title = f"{title}, PCR {pcr(claim['register'])}"
+    return Booted(title, None, value, claim.get("event"))
 
 
 def _image(claimed: Any) -> Any:
@@ -108,28 +101,28 @@ def _variable(content: Line) -> Tuple[Any, Any]:
     return said or {"value": variable.get("value")}, claimed
 
 
-def difference(line: Line) -> Difference:
-    """A line of `ima-agent boot --before`."""
-    if "alike" in line:
-        count, where = line["alike"], f" in bank {line['bank']}" if "bank" in line else ""
-        told = {
-            "all": "no difference", _UNKNOWN: "unknown: no value confirms the PCR", 0: f"the logs differ at the first event{where}",
-            1: f"the first event is the same{where}",
-        }
-        return Difference(_register(line), told.get(count, f"the first {count} events are the same{where}"), "", None)
-    when = "now" if "now" in line else "before"
-    return Difference(_register(line), f"{when}: event {line[when]}", line.get("digest", ""), line.get("claimed"))
+def is_compared(line: Line) -> bool:
+    """Whether a line of `ima-agent boot --before` is on a PCR of both logs."""
+    return "register" in line and "command" not in line
 
 
-def page_of(boot: Boot, criteria: Criteria, title: str) -> bytes:
+def page_of(boot: Boot, criteria: Criteria, call: Call, title: str) -> bytes:
     """The page of a boot."""
-    lines = boot.replies["boot"].lines
+    lines, nothing = boot.replies["boot"].lines, Reply(0, [], 0, "")
+    events = [{**line, "content": _content(line["content"])} for line in boot.replies["events"].lines if "event" in line]
+    comparison = compare([line for line in lines if is_compared(line)], boot.replies["events"], boot.replies.get(EARLIER_EVENTS, nothing))
     return render(
         "report.html", boot=boot, criteria=criteria, title=title, made=now(), version=__version__,
-        booted=[booted(line) for line in lines if not ("register" in line and "command" not in line)],
-        differences=[difference(line) for line in lines if "register" in line and "command" not in line],
-        unknown=frozenset(boot.unknown), reasons=boot.reasons, covered=covered, register=_register, with_names=with_names,
+        reasons=reasons(boot, criteria), steps=next_steps(boot, criteria, call), is_coded=is_coded,
+        booted=[booted(line) for line in lines if not is_compared(line)], comparison=comparison, events=events,
+        certificates=[*certificates_in(events)],
+        unknown=frozenset(boot.unknown), covered=covered, pcr=pcr, pcrs=pcrs, content=_content,
     )
+
+
+def _content(value: Any) -> Any:
+    """What the data of an event says, with names in certificates and words for numbers."""
+    return in_words(with_names(value)) if isinstance(value, dict) else value
 
 
 def options_of(words: Sequence[str]) -> argparse.Namespace:
@@ -139,13 +132,13 @@ def options_of(words: Sequence[str]) -> argparse.Namespace:
     add = parser.add_argument
     add("--require", metavar="SELECTION", action=Once, help=f"what must be quoted or expected (default: sha256:0-10); {NONE} if it may be anything")
     add("--known", metavar="FILE", action="append", default=[], help="what sha256sum printed of known files; may be given several times")
-    add("--prefix", action="store_true", help="judge the shortest prefix of the list that the registers confirm")
+    add("--prefix", action="store_true", help="judge the shortest prefix of the list that the PCRs confirm")
     add("--hcrtm", action="store_true", help=HCRTM)
     add("--old-kernel", action="store_true", help=OLD_KERNEL)
-    add("--before", metavar="OLD_LOG", action=Once, help="the log of an earlier boot: what differs is shown")
+    add("--before", metavar="EARLIER", action=Once, help="the folder of an earlier boot, or its log: compare with it, PCR by PCR")
     add("--key", metavar="KEY", action=Once, help="the key of the machine's TPM, NAME.pub or its PEM, with --nonce: judge by the quote")
     add("--nonce", metavar="HEX", action=Once, help="the nonce that was given out for the quote, with --key")
-    add("--sha1", action="store_true", help="with --key: take registers that are required in the SHA-1 bank alone")
+    add("--sha1", action="store_true", help="with --key: take PCRs that are required only in the SHA-1 bank")
     add("--title", metavar="TEXT", action=Once, help="the page's title (default: FOLDER)")
     add("--most", metavar="N", type=positive, default=10000, help="how many events and entries are shown (default: 10000)")
     add("--seconds", metavar="N", type=positive, default=600, help="how long the program may take for an answer (default: 600)")
@@ -155,9 +148,9 @@ def options_of(words: Sequence[str]) -> argparse.Namespace:
     if (options.key is None) != (options.nonce is None):
         parser.error("--key and --nonce go together: a quote is judged by both")
     if options.sha1 and options.key is None:
-        parser.error("--sha1 is of a quote, which needs --key and --nonce")
+        parser.error("--sha1 needs a quote, with --key and --nonce")
     if options.old_kernel and options.require == NONE:
-        parser.error(f"--old-kernel needs required registers, and not --require {NONE}")
+        parser.error(f"--old-kernel needs required PCRs, and not --require {NONE}")
     return options
 
 
@@ -183,11 +176,14 @@ def report(words: Sequence[str]) -> int:
         criteria = criteria_of(options)
         with tempfile.TemporaryDirectory(prefix="ima-report.") as work:
             boot = boot_of(Path(options.folder), criteria, Path(work))
-        write_page(page_of(boot, criteria, options.title or options.folder))
+        write_page(page_of(boot, criteria, Call(words), options.title or options.folder))
     except NoProgram as fault:
         print(f"ima-report: {ascii(str(fault))[1:-1]}", file=sys.stderr)
         return STOPPED
-    except Exception as fault:  # of the system, or none that was foreseen
+    except OSError as fault:
         print(f"ima-report: no page: {ascii(cause_of(fault))[1:-1]}", file=sys.stderr)
+        return STOPPED
+    except Exception as fault:  # none that was foreseen
+        print(f"ima-report: no page: an error of ima-report itself: {ascii(cause_of(fault))[1:-1]}", file=sys.stderr)
         return STOPPED
     return boot.status

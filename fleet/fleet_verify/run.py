@@ -42,7 +42,7 @@ LOOK_SECONDS = 1.0
 CLOSE_SECONDS = 1.0
 
 # Why a machine failed that was verified with no other in flight.
-KILLED = "KilledWorker: each worker that verified it died"
+KILLED = "each worker that verified it died"
 
 
 @dataclass(eq=False)

@@ -9,12 +9,12 @@ from typing import Any, Dict, List, Mapping, Optional
 from .reading import now
 from .verdicts import Verdicts
 
-# How many machines that do not match are named, and how many causes are told beside the counts.
+# How many machines that do not match are named, and how many reasons are given beside the counts.
 MOST_NAMED, MOST_CAUSES = 100, 3
 
-_REASONS = "SELECT verdict, why, machines FROM reasons ORDER BY machines DESC, verdict, why"
+_REASONS = "SELECT verdict, why, machines, reason FROM reasons ORDER BY machines DESC, verdict, why, reason"
 _NAMED = """
-SELECT machine, verdict, cause, boot_aggregate, unknown, first_unknown, report FROM verdicts WHERE verdict <> 'match'
+SELECT machine, verdict, cause, reason, boot_aggregate, unknown, first_unknown, report FROM verdicts WHERE verdict <> 'match'
 ORDER BY verdict <> 'differ', verdict <> 'refused', verdict <> 'failed', machine LIMIT ?
 """
 # (a time that is none is no age: then the oldest is infinitely old)
@@ -32,7 +32,8 @@ class Summary:
         poll: Its number, if it is a poll that began.
         retired: How many machines it retired.
         oldest_match: How many seconds ago the oldest match was given.
-        reasons, named: The causes with their numbers, and the first machines that do not match, once the run has given its counts.
+        reasons, named: The reasons with their numbers, and the first machines that do not match, once the run has given its counts.
+        prefixes: How many matches do not cover their whole lists, by then.
         status, ended, seconds: The exit status, when the run ended, and how long it took.
     """
 
@@ -44,6 +45,7 @@ class Summary:
     oldest_match: Optional[float] = None
     reasons: List[Dict[str, Any]] = field(default_factory=list)
     named: List[Dict[str, Any]] = field(default_factory=list)
+    prefixes: int = 0
     status: int = 3
     ended: str = ""
     seconds: float = 0
@@ -57,14 +59,17 @@ class Summary:
     def look(self, table: Verdicts) -> None:
         """Takes over why machines do not match."""
         rows = table.connection.execute(_REASONS)
-        self.reasons = [{"verdict": verdict, "cause": cause, "machines": count} for verdict, cause, count in rows]
+        self.reasons = [{"verdict": verdict, "cause": cause, "machines": count, "reason": reason} for verdict, cause, count, reason in rows]
+        self.prefixes = table.connection.execute("SELECT count(*) FROM prefixes").fetchone()[0]
         self.named = [_named(*row) for row in table.connection.execute(_NAMED, (MOST_NAMED,))]
 
     @property
-    def causes(self) -> List[str]:
-        """Why most machines have no verdict that a report explains, as lines."""
-        told = [each for each in self.reasons if each["cause"] is not None][:MOST_CAUSES]
-        return [f"{each['verdict']} {each['machines']}: {_whole(each['cause'])}" for each in told]
+    def lines(self) -> List[str]:
+        """What is to be said beside the counts: why most machines do not match, and how many matches cover less than their lists."""
+        told = [each for each in self.reasons if each["verdict"] != "match"]
+        lines = [f"{each['verdict']} {each['machines']}: {each['reason'] or each['cause'] or 'no reason is known'}" for each in told[:MOST_CAUSES]]
+        lines += [f"{len(told) - MOST_CAUSES} more reasons: see the view `reasons`, or `fleet-verify page`"] if len(told) > MOST_CAUSES else []
+        return lines + ([f"match {self.prefixes}: of the list only a prefix is confirmed, and nothing after it"] if self.prefixes else [])
 
     def end(self, status: int) -> None:
         """Notes that the run has ended, with this status."""
@@ -88,13 +93,8 @@ class Summary:
             "status": self.status, "time": self.ended, "poll": self.poll, "machines": self.machines, "verdicts": self.counts,
             "retired": self.retired, "seconds": round(self.seconds, 3), "machines_a_second": round(self.rate, 1),
             "oldest_match_seconds": None if self.oldest_match is None or math.isinf(self.oldest_match) else round(self.oldest_match, 1),
-            "reasons": self.reasons, "not_matching": self.named, "not_matching_more": different - len(self.named),
+            "matching_prefixes": self.prefixes, "reasons": self.reasons, "not_matching": self.named, "not_matching_more": different - len(self.named),
         })
-
-
-def _whole(cause: str) -> str:
-    """A cause, in which the number of an event or an entry may be left out, as a line."""
-    return f"{cause}.." if cause.endswith(" ") else cause
 
 
 def exit_status(counts: Mapping[str, int], machines: int) -> int:
@@ -105,15 +105,15 @@ def exit_status(counts: Mapping[str, int], machines: int) -> int:
 
 
 def _named(
-    machine: str, verdict: str, cause: Optional[str], boot_aggregate: Optional[str], unknown: Optional[int], first_unknown: Optional[int],
-    report: Optional[str],
+    machine: str, verdict: str, cause: Optional[str], reason: Optional[str], boot_aggregate: Optional[str], unknown: Optional[int],
+    first_unknown: Optional[int], report: Optional[str],
 ) -> Dict[str, Any]:
     """A machine that does not match, with its cause, or if it differs what its report says of that."""
     if report is None:
-        return {"machine": machine, "verdict": verdict, "cause": cause}
+        return {"machine": machine, "verdict": verdict, "cause": cause, "reason": reason}
     told = json.loads(report)
     return {
-        "machine": machine, "verdict": verdict, "cause": cause, "boot_aggregate": boot_aggregate,
+        "machine": machine, "verdict": verdict, "cause": cause, "reason": reason, "boot_aggregate": boot_aggregate,
         "registers": [row for row in told.get("registers", []) if row["state"] != "match"],
         "extends": told.get("extends", []), "quote": told.get("quote"), "unknown": unknown, "first_unknown": first_unknown,
     }

@@ -8,6 +8,7 @@ from dataclasses import dataclass
 from typing import Any, Optional, Sequence, Tuple
 
 from .reading import Fields, cause_of, read_inputs
+from .wording import ABSENT
 
 # The variable that may name the library.
 LIBRARY = "IMA_VERIFY_LIBRARY"
@@ -35,6 +36,8 @@ PEM = b"-----BEGIN"
 
 # Its line on a quote with another nonce.
 OTHER_NONCE = "refused: quote fault 11"
+ALL_USED = "Each nonce that was given out for this machine is used. Give out a new one with `fleet-verify nonces`, and collect a quote of it."
+NOT_ANSWERED = "The quote answers no nonce that was given out for this machine. Collect a new quote of the nonce that was given out last."
 
 # What may come of a machine besides a verdict: the worker lacks the library or a driver, or an error that none foresaw.
 UNFIT, TROUBLED = "unfit", "troubled"
@@ -58,6 +61,7 @@ class Asked:
         max_age: How many seconds old its files may be, if that is limited. (The age of a quote is judged where its nonce is taken.)
         hcrtm: Whether the event of an H-CRTM tells that PCR 0 began at 4.
         old_kernel: Whether a boot aggregate over PCRs 0 to 7 is taken.
+        prefix: Whether a match may cover the confirmed prefix of a list, and not all of it.
     """
 
     require: str
@@ -68,6 +72,7 @@ class Asked:
     max_age: Optional[float] = None
     hcrtm: bool = False
     old_kernel: bool = False
+    prefix: bool = False
 
     @property
     def on_boot(self) -> Fields:
@@ -109,7 +114,7 @@ def require_fitness(require: str, is_poll: bool, known: Optional[bytes] = None, 
     the signatures of quotes; and that it takes this text for what is required, and this one of known files.
 
     Otherwise there is an ImportError, or a ValueError, and no error of a class of `ima_verify`: the client may lack the package. The library
-    reads these texts before the log. A ValueError of known files has the number of the fault and the line."""
+    reads these texts before the log. A ValueError of known files has the number of the fault, the line and the words."""
     if "/" not in (os.environ.get(LIBRARY) or "/"):
         raise ImportError(f"{LIBRARY} is to be a path: a name alone would be that of a file in the folder of the call")
     import ima_verify
@@ -125,7 +130,7 @@ def require_fitness(require: str, is_poll: bool, known: Optional[bytes] = None, 
         raise ValueError(f"--require {require!r} is no selection with register 10, as sha256:0-10 or sha256:0-7,10, nor {NONE}") from None
     except ima_verify.Refused as fault:
         if fault.kind is Kind.KNOWN:
-            raise ValueError(fault.number, fault.place) from None
+            raise ValueError(fault.number, fault.place, fault.text) from None
         # (no log is empty)
     except ima_verify.Error as fault:
         raise ImportError(str(fault)) from None
@@ -188,15 +193,15 @@ def judge_registers(inputs: Inputs, checkpoint: Optional[bytes], asked: Asked, k
     log, measurements, expected = inputs
     assert log is not None and expected is not None
     given = {"require": required(asked.require), **asked.on_boot, **known_texts(known)}
-    if not asked.is_poll:
+    if not asked.is_poll and not asked.prefix:
         assert measurements is not None
         verdict: Any = ima_verify.verify(log, measurements, expected, **given)
         return verdict_fields(verdict) if has_compared(verdict) else {"verdict": "refused", "cause": NOTHING_EXPECTED}
-    session = ima_verify.Session(log, expected, state=checkpoint, **given)
+    session = ima_verify.Session(log, expected, state=checkpoint, prefix=asked.prefix, **given)
     verdict = session.more(measurements or b"")
     if not has_compared(verdict):
         return {"verdict": "refused", "cause": NOTHING_EXPECTED}
-    return {**verdict_fields(verdict), **reached(session, verdict)}
+    return {**verdict_fields(verdict), **(reached(session, verdict) if asked.is_poll else {})}
 
 
 def judge_quote(inputs: Inputs, checkpoint: Optional[bytes], given: Given, asked: Asked, known: Optional[bytes]) -> Fields:
@@ -237,8 +242,8 @@ def by_no_unused_nonce(message: bytes, given: Given, asked: Asked) -> Fields:
     if any(has_nonce(message, nonce, asked.require) for nonce, is_used in given.nonces if is_used):
         return {"verdict": "unreadable", "cause": USED}
     if all(is_used for _, is_used in given.nonces):
-        return {"verdict": "refused", "cause": NO_NONCE}
-    return {"verdict": "refused", "cause": OTHER_NONCE}
+        return {"verdict": "refused", "cause": NO_NONCE, "reason": ALL_USED}
+    return {"verdict": "refused", "cause": OTHER_NONCE, "reason": NOT_ANSWERED}
 
 
 def judge_attested(inputs: Inputs, checkpoint: Optional[bytes], key: bytes, nonce: str, asked: Asked, known: Optional[bytes]) -> Fields:
@@ -248,10 +253,10 @@ def judge_attested(inputs: Inputs, checkpoint: Optional[bytes], key: bytes, nonc
     log, measurements, message, signature = inputs
     assert log is not None and message is not None and signature is not None
     quoted, require, options = (key, message, signature), asked.require, {**asked.on_boot, **known_texts(known)}
-    if asked.is_poll:
-        session = ima_verify.Session.by_quotes(log, state=checkpoint, **options)
+    if asked.is_poll or asked.prefix:
+        session = ima_verify.Session.by_quotes(log, state=checkpoint, prefix=asked.prefix, **options)
         found = session.attest(*quoted, measurements or b"", nonce_hex=nonce, require=require)
-        fields = reached(session, found)
+        fields = reached(session, found) if asked.is_poll else {}
     else:
         assert measurements is not None
         found, fields = ima_verify.attest(*quoted, log, measurements, nonce_hex=nonce, require=require, **options), {}
@@ -279,8 +284,8 @@ def signer_of(key: bytes) -> str:
 
 def without_quote(fields: Fields) -> Fields:
     """The row of a machine of which an input was not read: refused, if it is one of its quote, and not there."""
-    absent = tuple(f"{part}: FileNotFoundError" for part in ("quote", "signature"))
-    if not fields["cause"].startswith(absent):
+    absent = tuple(f"{part}: {ABSENT}" for part in ("quote", "signature"))
+    if fields["cause"] not in absent:
         return fields
     return {**fields, "verdict": "refused", "cause": NO_QUOTE.format(fields["cause"])}
 
@@ -304,7 +309,7 @@ def verdict_on(
     except ima_verify.Refused as fault:
         # (an empty checkpoint is a damaged one: the machine is refused until --whole)
         kept = {"checkpoint": ""} if fault.message == DAMAGED else {}
-        return {**fields, "verdict": "refused", "cause": fault.message, **kept}
+        return {**fields, "verdict": "refused", "cause": fault.message, "reason": fault.text, **kept}
     if inputs[1] is None:
         return {**fields, "verdict": "unreadable", "cause": SHORTER}
     return {**fields, **judged}

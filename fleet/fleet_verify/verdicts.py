@@ -12,6 +12,7 @@ from .opening import BadVerdicts, open_table
 from .reading import PARTS, QUOTED_PARTS, Fields, now
 from .schema import FOUND, GIVEN, NO_CLOCK, VERDICTS
 from .verdict import Given
+from .wording import row_reason
 
 __all__ = ["VERDICTS", "BadVerdicts", "Quoting", "Verdicts"]
 
@@ -22,8 +23,9 @@ _CLOCK = re.compile(r'"clock":(\{[^{}]*\})')
 
 
 def _assigned(columns: Sequence[str]) -> Tuple[str, str]:
-    """The columns, and the values that a row gives them, as rows of SQL. (Which boot was the last is kept where a verdict does not tell.)"""
-    values = (f"ifnull(?{number}, boot)" if column == "boot" else f"?{number}" for number, column in enumerate(columns, 1))
+    """The columns, and the values that a row gives them, as rows of SQL. (Which boot was the last, and when the last match, is kept where a verdict
+    does not say.)"""
+    values = (f"ifnull(?{number}, {column})" if column in ("boot", "matched") else f"?{number}" for number, column in enumerate(columns, 1))
     return f"({', '.join(columns)})", f"({', '.join(values)})"
 
 
@@ -95,10 +97,10 @@ class Verdicts:
 
     def __init__(
         self, path: str, required: str, known_sha256: Optional[str] = None, quoting: Optional[Quoting] = None, hcrtm: bool = False,
-        old_kernel: bool = False,
+        old_kernel: bool = False, prefix: bool = False,
     ):
         self.required, self.known_sha256, self.quoting = required, known_sha256, quoting
-        self.hcrtm, self.old_kernel = hcrtm, old_kernel
+        self.hcrtm, self.old_kernel, self.prefix = hcrtm, old_kernel, prefix
         self.poll: Optional[int] = None
         self.connection = open_table(path)
 
@@ -129,16 +131,18 @@ class Verdicts:
         and given with the same requirement, all by polls or none. Without polls verdicts stand, so all must be by the same known files, too."""
         places = {machine.name: _places(machine) for machine in machines}
         verdicts = {}
-        columns = ", ".join(("machine", "verdict", "required", "hcrtm", "old_kernel", "known_sha256", "poll", *_PLACES))
+        columns = ", ".join(("machine", "verdict", "required", "known_sha256", "poll", "hcrtm", "old_kernel", "prefix", *_PLACES))
         rows = self.connection.execute(f"SELECT {columns} FROM verdicts")
-        for name, verdict, required, hcrtm, old_kernel, known, poll, *recorded in rows:
+        for name, verdict, required, known, poll, hcrtm, old_kernel, prefix, *recorded in rows:
             if name in leaving:
                 continue
             if (poll is not None) != is_poll:
                 raise BadVerdicts(f"its verdicts were given {'without' if is_poll else 'with'} --poll: take another TABLE")
             if required != self.required:
                 raise BadVerdicts(f"its verdict of {name!r} was given with --require {required}: take another TABLE")
-            for option, was, is_now in (("--hcrtm", hcrtm, self.hcrtm), ("--old-kernel", old_kernel, self.old_kernel)):
+            for option, was, is_now in (
+                ("--hcrtm", hcrtm, self.hcrtm), ("--old-kernel", old_kernel, self.old_kernel), ("--prefix", prefix, self.prefix),
+            ):
                 if was != is_now:
                     raise BadVerdicts(f"its verdict of {name!r} was given {'without' if is_now else 'with'} {option}: take another TABLE")
             if not is_poll and known != self.known_sha256:
@@ -205,8 +209,9 @@ class Verdicts:
         parts = QUOTED_PARTS if machine.is_quoted else PARTS
         row: Fields = {
             **answer, **dict(zip(parts, machine.paths)), "machine": machine.name, "required": self.required, "hcrtm": self.hcrtm,
-            "old_kernel": self.old_kernel, "known_sha256": self.known_sha256, "poll": self.poll,
-            "boot": None if self.poll is None else _boot(answer),
+            "old_kernel": self.old_kernel, "prefix": self.prefix, "known_sha256": self.known_sha256, "poll": self.poll,
+            "boot": None if self.poll is None else _boot(answer), "matched": answer["time"] if answer["verdict"] == "match" else None,
+            "reason": row_reason(answer),
         }
         clock = _CLOCK.search(row["report"]) if row.get("nonce") and row.get("report") else None
         if clock is not None:
@@ -249,8 +254,8 @@ class Verdicts:
         ended = self.connection.execute("SELECT max(time) FROM ends").fetchone()[0]
         if ended is not None:
             raise BadVerdicts(
-                f"its run ended at {ended}: take another TABLE, or name by --again the verdicts to give anew "
-                f"({','.join(VERDICTS)}; none: all stand)"
+                f"its run ended at {ended}: take another TABLE, with --poll to run again and again; or name with --again which verdicts "
+                f"to give again ({','.join(VERDICTS)}; none keeps all)"
             )
 
     def end(self, time: str, oldest: str) -> None:

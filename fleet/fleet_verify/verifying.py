@@ -17,11 +17,12 @@ from .machines import BadTable, Machine, read_machines
 from .metrics import require_writable
 from .options import Options
 from .progress import Progress
-from .reading import now
+from .reading import cause_of, now
 from .run import Run
 from .summary import Summary, exit_status
 from .verdict import require_fitness
 from .verdicts import VERDICTS, BadVerdicts, Quoting, Verdicts
+from .wording import without_place
 from .workers import connect, require_fit
 
 # How many machines that are retired are named.
@@ -45,10 +46,10 @@ def stop_at_signals() -> None:
 
 def unfit(fault: ValueError, known: Optional[Known]) -> NotStarted:
     """Why nothing is started, by what `require_fitness` says of what is required or of a line of known files."""
-    if known is None or len(fault.args) != 2:
+    if known is None or len(fault.args) != 3:
         return NotStarted(fault)
-    number, line = fault.args
-    return NotStarted(f"{known.place(line)}: known fault {number}")
+    number, line, words = fault.args
+    return NotStarted(f"{known.place(line)}: known fault {number}. {without_place(words)}")
 
 
 async def run(
@@ -103,7 +104,9 @@ def refusing(path: str) -> Iterator[None]:
     """Nothing is started with this file, if something is wrong with it."""
     try:
         yield
-    except (OSError, sqlite3.Error, BadTable, BadVerdicts) as fault:
+    except OSError as fault:
+        raise NotStarted(f"{path}: {cause_of(fault)}") from None
+    except (sqlite3.Error, BadTable, BadVerdicts) as fault:
         raise NotStarted(f"{path}: {fault}") from None
 
 
@@ -116,7 +119,7 @@ def opened(options: Options, known: Optional[Known]) -> Verdicts:
         quoting = Quoting(options.keys, options.max_age or math.inf)
     with refusing(options.table):
         digest = None if known is None else known.sha256
-        return Verdicts(options.table, options.require, digest, quoting, options.hcrtm, options.old_kernel)
+        return Verdicts(options.table, options.require, digest, quoting, options.hcrtm, options.old_kernel, options.prefix)
 
 
 def recorded_in(table: Verdicts, machines: Sequence[Machine], options: Options, summary: Summary) -> Dict[str, str]:
@@ -169,8 +172,8 @@ def print_counts(options: Options, table: Verdicts, summary: Summary) -> int:
     summary.end(exit_status(summary.counts, sum(summary.counts.values())))
     with telling() as output:
         print(summary.json if options.json else "\n".join(f"{kind} {summary.counts[kind]}" for kind in VERDICTS), file=output)
-    for cause in [] if options.json else summary.causes:
-        complain(cause, 0)
+    for line in [] if options.json else summary.lines:
+        complain(line, 0)
     end = datetime.fromisoformat(summary.ended)
     oldest = (end - timedelta(seconds=options.keep)).isoformat(timespec="milliseconds")
     table.end(summary.ended, oldest)  # (not before, so that the same command goes on until the counts are told)

@@ -7,8 +7,9 @@ import time
 from dataclasses import dataclass
 from typing import Any, Callable, Iterable, List, Optional, Sequence, Tuple
 
-from .reading import LATE, Fields, now, paths_of
+from .reading import Fields, now, paths_of
 from .verdict import REPORTED, UNFIT, Asked, Given, answer_on
+from .wording import LATE
 
 # After this part of its deadline, or at least so many seconds, a machine is slow: its worker turns to others. Beside these the machine is asked
 # again, for as long as its deadline says.
@@ -131,12 +132,12 @@ class Answering:
 
     def _late(self, number: int) -> Fields:
         places, _ = self.batch.machines[number]
-        return {"verdict": "unreadable", "cause": f"TimeoutError: {LATE}", "places": places, "time": now()}
+        return {"verdict": "unreadable", "cause": LATE, "places": places, "time": now()}
 
 
 def is_late(answer: Fields) -> bool:
     """Whether a machine's files were not there in time."""
-    return answer["verdict"] == "unreadable" and str(answer["cause"]).endswith(f"TimeoutError: {LATE}")
+    return answer["verdict"] == "unreadable" and (answer["cause"] == LATE or str(answer["cause"]).endswith(f": {LATE}"))
 
 
 def answers_in_time(batch: Batch, known: Optional[bytes]) -> List[Fields]:

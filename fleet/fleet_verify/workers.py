@@ -58,6 +58,7 @@ def asked_of(options: Options, known: Optional[str]) -> Asked:
     return Asked(
         require=options.require, is_poll=options.poll, is_quoted=not options.unquoted, deadline=options.deadline, known=known,
         max_age=options.max_age if options.unquoted else None, hcrtm=options.hcrtm, old_kernel=options.old_kernel,
+        prefix=options.prefix,
     )
 
 

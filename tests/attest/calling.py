@@ -1,10 +1,11 @@
 """What the tests of attest/ share: the arguments of a call and its end, stand-ins for tools, and made logs and lists."""
 
 import os
+import re
 import shutil
 import subprocess
 import tempfile
-from contextlib import contextmanager
+from contextlib import contextmanager, suppress
 from dataclasses import dataclass, replace
 from pathlib import Path
 
@@ -27,6 +28,8 @@ EV_EVENT_TAG = 6
 LOG = read_log((BOOT / "firmware.log").read_bytes())
 ENTRIES = read_list((BOOT / "ima.list").read_bytes())
 SECONDS = 240  # after which a call hangs, however busy the machine is
+# How a line begins that the script or bash says, and not the program.
+FOREIGN = re.compile(r"(?:\S*/)?(?:ima-attest|bash): ")
 # All that `ima-attest` needs beside ima-agent.
 TOOL = "readlink"
 # A dd to which each read gives 16 bytes, as a file system may, unless it asks for full blocks.
@@ -139,17 +142,18 @@ class AttestTests(harness.TestCase):
         """A call whose standard input is a file."""
         return self.call(["bash", "-c", 'exec "${@:2}" <"$1"', "bash", str(path), *self.signed(evidence).words()])
 
-    def said_on_terminal(self, evidence):
-        """The status of a call, and what it says on standard error where that is a terminal."""
+    def said_on_terminal(self, evidence, words=None):
+        """The status of a call with this evidence, or of these words, and what it says on standard error where that is a terminal."""
         primary, terminal = os.openpty()
         with os.fdopen(primary, "rb", buffering=0) as shown:
-            ended = subprocess.run(self.signed(evidence).words(), env=self.environment, stdin=subprocess.DEVNULL, stdout=subprocess.DEVNULL,
+            ended = subprocess.run(words or self.signed(evidence).words(), env=self.environment, stdin=subprocess.DEVNULL, stdout=subprocess.DEVNULL,
                                    stderr=terminal, timeout=SECONDS)
             os.close(terminal)
-            try:
-                return ended.returncode, shown.read(1000).decode()
-            except OSError:  # (nothing was said)
-                return ended.returncode, ""
+            said = b""
+            with suppress(OSError):  # (nothing more was said)
+                while part := shown.read(1000):
+                    said += part
+            return ended.returncode, said.decode()
 
     def put(self, name, data):
         """A file with these bytes."""
@@ -200,9 +204,11 @@ class AttestTests(harness.TestCase):
         self.check(title, (ended.status, ended.output, words in ended.errors or ended.errors), (status, "", True))
 
     def check_line(self, title, ended, status, *lines):
-        """There is no report, but one of these lines of the program."""
-        found = (ended.status, ended.output.removesuffix("\n") in lines or ended.output, ended.errors)
-        self.check(title, found, (status, True, ""))
+        """There is no report, but one of these lines of the program. What it says of that on standard error is said once, and by nothing else."""
+        said = ended.errors.splitlines()
+        foreign = [line for line in said if FOREIGN.match(line) or said.count(line) > 1]
+        found = (ended.status, ended.output.removesuffix("\n") in lines or ended.output, foreign)
+        self.check(title, found, (status, True, []))
 
     def check_fault(self, title, ended, number):
         """The program refuses the quote, whose message is signed: there is no report, but the number of its fault."""

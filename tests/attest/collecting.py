@@ -11,10 +11,8 @@ from pathlib import Path
 from calling import ENTRIES, NONCE, SECONDS, AttestTests, executable
 from emulated import BOOT, ROOT
 from reference.measurement_list import list_spelling
-from tpm import BLOCK, MachineTests
+from tpm import BLOCK, EVIDENCE, QUOTED, MachineTests, at
 
-EVIDENCE = ["expected.txt", "firmware.log", "ima.list"]
-QUOTED = [*EVIDENCE, "quote.msg", "quote.sig"]
 WITH_NONCE = f"ima-collect --nonce {NONCE} made"
 WITHOUT_NONCE = "ima-collect made"
 HANDLE = "0x81010002"
@@ -42,6 +40,7 @@ class CollectTests(MachineTests):
         return [path.name for path in self.home.iterdir() if path.name.startswith(".")]
 
     def check_made(self, title, ended, names, said=""):
+        said += "".join(f"{line}\n" for line in self.collected("made", names))
         self.check(title, (ended.status, ended.output, ended.errors, self.made, self.hidden()), (0, "", said, names, []))
 
     def check_failed(self, title, ended, words):
@@ -59,7 +58,8 @@ class Collected(CollectTests):
 
     def test_keys(self):
         """Keys are made, each at its handle, and stay there."""
-        without = "ima-collect: the TPM has no certificate of its endorsement key: without one the verifier enrolls it only with --in-hand\n"
+        without = ("ima-collect: the TPM has no certificate of its endorsement key: the verifier can enroll it only with --in-hand, "
+                   "on which ima-enroll(1) has more\n")
         self.must("a certificate of a key on a curve", "tpm2_nvdefine", "0x1c0000a", "-C", "p", "-s", "4", "-a", "ownerread|ppwrite|platformcreate")
         self.check_made("a TPM without a certificate", self.make("ima-collect --enroll --handle 0x81010007 made"), ["AK.pub", "EK.pub"], without)
         self.give_certificate()
@@ -117,7 +117,7 @@ class Collected(CollectTests):
         block, *others = BLOCK.findall(section)
         [banks] = [other for other in others if "tpm2_pcrread" in other]
         shutil.rmtree(self.home / "evidence", ignore_errors=True)
-        self.check_quiet("attest.md: without a quote", self.on_machine(block))
+        self.check_collected("attest.md: without a quote", self.on_machine(block), "evidence", EVIDENCE)
         self.check("attest.md: evidence", sorted(path.name for path in self.home.joinpath("evidence").iterdir()), EVIDENCE)
         self.check_quiet("attest.md: another bank", self.on_machine(banks))
         ended = self.call(["ima-agent", "expected", "--registers", "0-10", str(self.home / "pcrread.txt")])
@@ -223,7 +223,9 @@ class Collected(CollectTests):
             there.rmdir() if there.is_dir() else there.unlink()
         for name in ("-x", "a b", "$(touch called)", "deep/", "deep//", str(self.home / "absolute")):
             quoted = f"'{name}'"
-            self.check_quiet(f"the folder {name}", self.make(WITHOUT_NONCE.replace("made", f"-- {quoted}")))
+            shown = name.rstrip("/").rpartition("/")[2]
+            shown = shown if re.fullmatch(r"[\w.-]+", shown) else at(shown)
+            self.check_collected(f"the folder {name}", self.make(WITHOUT_NONCE.replace("made", f"-- {quoted}")), shown, EVIDENCE)
             made = self.home / name
             self.check(f"it is {name}", (sorted(path.name for path in made.iterdir()), self.home.joinpath("called").exists()), (EVIDENCE, False))
             shutil.rmtree(made)

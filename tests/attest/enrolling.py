@@ -18,7 +18,7 @@ from calling import GOOD, LOG, SECONDS, SHORT_READS, AttestTests, executable, va
 from emulated import emulated
 from reference.measurement_list import list_spelling
 from reference.registers import SHA256
-from tpm import NAME, MachineTests
+from tpm import ENROLLING, NAME, MachineTests
 
 # Attributes of a key, by TPM 2.0 Library part 2, TPMA_OBJECT.
 FIXED_TPM, FIXED_PARENT, MADE_BY_TPM, WITH_AUTH, WITH_POLICY, RESTRICTED, DECRYPT, SIGN = (1 << bit for bit in (1, 4, 5, 6, 7, 16, 17, 18))
@@ -86,7 +86,7 @@ class EnrollTests(MachineTests):
     def begin(self):
         """The machine's key is made, and comes to the verifier."""
         self.give_certificate()
-        self.check_quiet("a key is made", self.on_machine(self.key_block))
+        self.check_collected("a key is made", self.on_machine(self.key_block), "enroll", ENROLLING)
         self.good = {path.name: path.read_bytes() for path in self.home.joinpath("enroll").iterdir()}
         type(self).good = self.good
         self.check("what is sent", sorted(self.good), ["AK.pub", "EK.der", "EK.pub"])
@@ -121,7 +121,7 @@ class EnrollTests(MachineTests):
         return self.home.joinpath("answer/answer").read_bytes() if is_opened else b""
 
     def check_challenged(self, title, ended, name="m"):
-        self.check_quiet(f"{title}: a credential is made", ended)
+        self.check_made_credential(f"{title}: a credential is made", ended, self.verifier / "sent")
         self.check(f"{title}: it waits for its answer", f".{name}" in self.waiting)
 
     def check_not(self, title, ended, status, words):
@@ -154,7 +154,7 @@ class Enrolled(EnrollTests):
         pem = software.public.read_bytes()
         left = {"AK_pem": pem, "EK_pem": pem, "m_pem": pem, "AK_name": b"000b", "secret": bytes(32), "credential": b"", "answer_sha256": b""}
         self.check_challenged("a PEM beside the key", self.challenge(**left))
-        self.check_quiet("it is answered", self.answer(self.opened("a PEM beside the key")))
+        self.check_enrolled("it is answered", self.answer(self.opened("a PEM beside the key")))
         self.check_kept("the TPM's key is kept", "m", self.good["AK.pub"])
         entries = [*self.entries[:1], executable(b"/bin/invented")]
         message = GOOD.quote.read_bytes()[:-32] + SHA256.hash(b"".join(values_after(entries, LOG)))
@@ -267,10 +267,10 @@ class Enrolled(EnrollTests):
             ("names by SHA-384", area[:2] + b"\0\x0c" + area[4:]), ("another policy", area[:10] + bytes(32) + area[42:]),
         ):
             self.check_challenged(f"EK.pub with {title}", self.challenge(EK_pub=framed(changed)))
-            self.check_quiet(f"EK.pub with {title}: the answer is right", self.answer(self.opened(f"EK.pub with {title}")))
+            self.check_enrolled(f"EK.pub with {title}: the answer is right", self.answer(self.opened(f"EK.pub with {title}")))
             self.forget()
         self.check_challenged("EK.pub without its size", self.challenge(EK_pub=area))
-        self.check_quiet("EK.pub without its size: the answer is right", self.answer(self.opened("EK.pub without its size")))
+        self.check_enrolled("EK.pub without its size: the answer is right", self.answer(self.opened("EK.pub without its size")))
         self.forget()
 
     def test_certificates(self):
@@ -383,7 +383,7 @@ class Enrolled(EnrollTests):
             self.put(f"{name}.answer", self.opened(f"two names: {name}"))
         answers = [self.folder.joinpath(f"{name}.answer").read_bytes() for name in ("m", "n")]
         self.check_not_kept("the secret of another name", self.answer(answers[1], "m"))
-        self.check_quiet("and the right one", self.answer(answers[1], "n"))
+        self.check_enrolled("and the right one", self.answer(answers[1], "n"), "n")
         self.check_kept("it is kept", "n", self.good["AK.pub"])
         for title, ended in (("a challenge for a name that is enrolled", self.challenge("n")), ("an answer for one", self.answer(answers[1], "n"))):
             self.check(title, (ended.status, "n is enrolled" in ended.errors, ended.output), (64, True, ""))
@@ -404,7 +404,7 @@ class Enrolled(EnrollTests):
                 self.check_challenged(f"{title}: {name}", self.challenge(name), name)
                 self.put(f"{name}.answer", self.opened(f"{title}: {name}"))
             first_answer, late = (self.folder.joinpath(f"{name}.answer").read_bytes() for name in (first, second))
-            self.check_quiet(f"{title}: the first", self.answer(first_answer, first))
+            self.check_enrolled(f"{title}: the first", self.answer(first_answer, first), first)
             self.check_refused_for(f"{title}: its answer", self.answer(late, second), first)
             ended = self.challenge(second)
             self.check_refused_for(f"{title}: its challenge", ended, first)
@@ -419,7 +419,7 @@ class Enrolled(EnrollTests):
             self.check_challenged(f"{title}: another endorsement key", self.challenge(second, by=["--in-hand"], EK_pub=other), second)
             self.forget(first)
             self.check_challenged(f"{title}: after it was removed", self.challenge(second), second)
-            self.check_quiet(f"{title}: after it was removed, the answer", self.answer(self.opened(title), second))
+            self.check_enrolled(f"{title}: after it was removed, the answer", self.answer(self.opened(title), second), second)
             self.check_kept(f"{title}: the second is kept", second, self.good["AK.pub"])
             self.forget(second)
         self.keys.joinpath("x/x.ek.pem").mkdir(parents=True)
@@ -455,7 +455,7 @@ class Enrolled(EnrollTests):
         folder, title = self.lay_out({}), "challenges for one name at once"
         ended = self.at_once(title, lambda folder, settings: self.challenge(folder=folder, settings=settings), folder, folder)
         self.check(f"{title}: the statuses", [each.status for each in ended], [0, 0])
-        self.check_quiet(f"{title}: what the machine gets is what waits", self.answer(self.opened(title)))
+        self.check_enrolled(f"{title}: what the machine gets is what waits", self.answer(self.opened(title)))
         self.forget()
 
     def test_modes(self):
@@ -465,7 +465,7 @@ class Enrolled(EnrollTests):
             try:
                 self.check_challenged(f"the mask {mask:03o}", self.challenge())
                 right = self.opened(f"the mask {mask:03o}")
-                self.check_quiet(f"the mask {mask:03o}: the answer", self.answer(right))
+                self.check_enrolled(f"the mask {mask:03o}: the answer", self.answer(right))
             finally:
                 os.umask(before)
             kept = self.keys / "m"
@@ -500,7 +500,7 @@ class Enrolled(EnrollTests):
         ended = self.call(["ima-enroll", "--keys", str(self.keys), "--answer", str(answer), "m"], **swapping)
         self.check("an answer becomes a link", (ended.status, "cannot read" in ended.errors, self.waiting), (3, True, [".m"]))
         answer.unlink()
-        self.check_quiet("the right one", self.answer(right))
+        self.check_enrolled("the right one", self.answer(right))
         self.forget()
 
     def test_files(self):
@@ -542,7 +542,7 @@ class Enrolled(EnrollTests):
         short = self.stand_in("dd", SHORT_READS)
         self.check_challenged("each read is short", self.challenge(settings=short))
         right = self.opened("each read is short")
-        self.check_quiet("each read is short: the answer", self.answer(right, **short))
+        self.check_enrolled("each read is short: the answer", self.answer(right, **short))
         self.forget()
 
     def test_written(self):
@@ -567,7 +567,7 @@ class Enrolled(EnrollTests):
         folder.joinpath("credential").mkdir()
         ended = self.challenge(folder=folder)
         self.check("credential is a folder, and one waits", (ended.status, "cannot be written" in ended.errors, self.waiting), (3, True, [".m"]))
-        self.check_quiet("what waits still does", self.answer(right))
+        self.check_enrolled("what waits still does", self.answer(right))
         self.forget()
         self.check_challenged("a challenge before KEYS/NAME comes", self.challenge())
         coming = self.stand_in("flock", f"mkdir '{self.keys}/m' && touch '{self.keys}/m/kept'; exec \"$real\" \"$@\"")
@@ -579,9 +579,10 @@ class Enrolled(EnrollTests):
         ended = self.challenge()
         self.check("KEYS/NAME is a link that leads nowhere", (ended.status, "m is enrolled" in ended.errors), (64, True))
         self.keys.joinpath("m").unlink()
-        for title, keys in (("not there", "none"), ("a file", str(victim))):
+        for title, keys, said in (("not there", "none", "there is no folder "), ("a file", str(victim), "there is no folder "),
+                                  ("where no folder is made", "/proc", "no folder can be made in ")):
             ended = self.call(["ima-enroll", "--keys", keys, "--in-hand", "m", str(self.lay_out({}))])
-            self.check(f"KEYS is {title}", (ended.status, "no folder can be made in " in ended.errors, ended.errors.count("\n")), (3, True, 1))
+            self.check(f"KEYS is {title}", (ended.status, said in ended.errors or ended.errors, ended.errors.count("\n")), (3, True, 1))
 
     def test_names(self):
         """Names of machines are plain, and names of files any."""
@@ -608,9 +609,11 @@ class Enrolled(EnrollTests):
         top.joinpath(keys).mkdir()
         shutil.copytree(self.lay_out({}), top / sent)
         shutil.copy(self.vendor.certificate, top / vendor)
-        self.check_quiet("odd names", self.call(["ima-enroll", f"--keys={keys}", "--ca", vendor, "m", sent], folder=top, TPM2TOOLS_TCTI="none"))
+        ended = self.call(["ima-enroll", f"--keys={keys}", "--ca", vendor, "m", sent], folder=top, TPM2TOOLS_TCTI="none")
+        self.check_made_credential("odd names", ended, sent)
         top.joinpath(answer).write_bytes(self.opened("odd names", credential=top.joinpath(sent, "credential").read_bytes()))
-        self.check_quiet("odd names: the answer", self.call(["ima-enroll", "--keys", keys, "--answer", answer, "m"], folder=top))
+        ended = self.call(["ima-enroll", "--keys", keys, "--answer", answer, "m"], folder=top)
+        self.check_enrolled("odd names: the answer", ended, keys=top / keys)
         self.check("odd names: what is there", sorted(path.name for path in top.iterdir()), sorted((keys, sent, vendor, answer)))
         kept = sorted(path.name for path in top.joinpath(keys, "m").iterdir())
         self.check("odd names: the key is kept", kept, ["m.ek.pem", "m.pem", "m.pub"])
@@ -634,7 +637,7 @@ class Enrolled(EnrollTests):
             opened = ("-c", "kind.ctx", "-C", "kind-ek.ctx", "-i", "credential", "-o", "kind.answer", "-P", "session:session.ctx")
             self.must(f"{title}: it is opened", "tpm2_activatecredential", *opened)
             self.must(f"{title}: the session ends", "tpm2_flushcontext", "session.ctx")
-            self.check_quiet(f"{title}: the answer", self.answer(self.home.joinpath("kind.answer").read_bytes()))
+            self.check_enrolled(f"{title}: the answer", self.answer(self.home.joinpath("kind.answer").read_bytes()))
             self.must(f"{title}: in PEM", "tpm2_readpublic", "-c", "kind.ctx", "-f", "pem", "-o", "kind.pem")
             self.check(f"{title}: what is kept", (self.keys / "m/m.pem").read_bytes() == self.home.joinpath("kind.pem").read_bytes())
             self.forget()

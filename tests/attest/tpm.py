@@ -36,6 +36,13 @@ LOWEST = "0,1,2,3,4,5,6,7,8,9"
 HASHES = ("sha256", "sha384", "sha512")
 BLOCK = re.compile(r"^```sh\n(.*?)^```$", re.MULTILINE | re.DOTALL)
 NAME = "box"  # the machine's
+ENROLLING, EVIDENCE = ["AK.pub", "EK.der", "EK.pub"], ["expected.txt", "firmware.log", "ima.list"]
+QUOTED = [*EVIDENCE, "quote.msg", "quote.sig"]
+
+
+def at(path):
+    """A path as bash quotes it."""
+    return f"'{path}'"
 
 
 class MachineTests(AttestTests):
@@ -58,6 +65,8 @@ class MachineTests(AttestTests):
         section = re.search(r"^## With a quote\n(.*?)^## ", (ROOT / "docs/attest.md").read_text(), re.MULTILINE | re.DOTALL)[1]
         cls.key_block, cls.challenge_block, cls.answer_block, cls.keep_block, *blocks = BLOCK.findall(section)
         cls.nonce_block, cls.quote_block, cls.verdict_block = blocks
+        without = re.search(r"^## Without a quote\n(.*?)^## ", (ROOT / "docs/attest.md").read_text(), re.MULTILINE | re.DOTALL)[1]
+        cls.unquoted_block = next(block for block in BLOCK.findall(without) if "ima-agent verify" in block)
 
     @classmethod
     def has(cls, entries):
@@ -101,17 +110,45 @@ class MachineTests(AttestTests):
     def enroll(self, title):
         """The blocks of attest.md by which the machine's key comes to the verifier."""
         self.give_certificate()
-        self.check_quiet(f"{title}: a key is made", self.on_machine(self.key_block))
+        self.check_collected(f"{title}: a key is made", self.on_machine(self.key_block), "enroll", ENROLLING)
         self.send("enroll")
-        self.check_quiet(f"{title}: the TPM is challenged", self.on_verifier(self.challenge_block))
+        self.check_made_credential(f"{title}: the TPM is challenged", self.on_verifier(self.challenge_block), "enroll")
         shutil.copy(self.verifier / "enroll/credential", self.home)
-        self.check_quiet(f"{title}: it answers", self.on_machine(self.answer_block))
+        self.check_collected(f"{title}: it answers", self.on_machine(self.answer_block), "answer", ["answer"])
         self.send("answer")
-        self.check_quiet(f"{title}: the key is kept", self.on_verifier(self.keep_block))
+        self.check_enrolled(f"{title}: the key is kept", self.on_verifier(self.keep_block), NAME)
 
-    def check_quiet(self, title, ended):
-        """A call ends well, and says nothing."""
-        self.check(title, (ended.status, ended.output, ended.errors), (0, "", ""))
+    def check_quiet(self, title, ended, *lines):
+        """A call ends well, and says nothing, or these lines on standard error."""
+        self.check(title, (ended.status, ended.output, ended.errors), (0, "", "".join(f"{line}\n" for line in lines)))
+
+    def collected(self, folder, names):
+        """What ima-collect says of a folder with these files: what it made, and what attest.md has next."""
+        blocks = []
+        if "EK.der" in names:  # (a machine that sends none does not say that it is to be taken at its word)
+            blocks.append(self.challenge_block.replace(" enroll\n", f" {folder}\n"))
+        if "answer" in names:
+            blocks.append(self.keep_block.replace(" answer/", f" {folder}/"))
+        blocks += [block for name, block in (("quote.msg", self.verdict_block), ("firmware.log", self.unquoted_block)) if name in names][:1]
+        place = f" in {folder}" if "firmware.log" in names else ""
+        starts = [("" if "ima-enroll" in block else place) for block in blocks]
+        return [f"ima-collect: {folder} is made, with {' '.join(names)}: send it to the verifier",
+                *(f"ima-collect: next, there{start}: {block.strip()}" for start, block in zip(starts, blocks))]
+
+    def check_collected(self, title, ended, folder, names):
+        """ima-collect made a folder of this name with these files, and says so."""
+        self.check_quiet(title, ended, *self.collected(folder, names))
+
+    def check_made_credential(self, title, ended, sent):
+        """ima-enroll made a credential for what a machine sent, and says what attest.md has next."""
+        self.check_quiet(title, ended, f"ima-enroll: {at(f'{sent}/credential')} is made: send it to the machine",
+                         f"ima-enroll: next, there as root: {self.answer_block.strip()}")
+
+    def check_enrolled(self, title, ended, name="m", keys=None):
+        """ima-enroll kept the key of this machine, and says what attest.md has next."""
+        asking = f"{self.nonce_block.strip()}; and on the machine, as root: {self.quote_block.strip()}"
+        self.check_quiet(title, ended, f"ima-enroll: {name} is enrolled: its key is {at(f'{keys or self.keys}/{name}/{name}.pub')}",
+                         f"ima-enroll: next, for each quote: {asking}")
 
     def verdict(self, **settings):
         """The verdict by attest.md's block, for which the verifier has no openssl."""
@@ -121,7 +158,7 @@ class MachineTests(AttestTests):
     def verdict_on_quote(self, title):
         """The verdict on a new quote."""
         shutil.rmtree(self.home / "evidence", ignore_errors=True)
-        self.check_quiet(f"{title}: the quote", self.on_machine(self.quote_block, nonce=self.nonce))
+        self.check_collected(f"{title}: the quote", self.on_machine(self.quote_block, nonce=self.nonce), "evidence", QUOTED)
         self.send("evidence")
         return self.verdict()
 

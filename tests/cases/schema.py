@@ -10,7 +10,9 @@ also be valid where each object has no members but those of the schema, and its 
 
 The lines of the cases must have each member, and each value that the schema names, but those in NOWHERE. A member that is not required must be
 absent somewhere. The schema must describe each member. json.md, event-data.md, layouts.txt and errors.txt must name what it has, and nothing
-else. The script counts lines, members and values."""
+else. The script counts lines, members and values.
+
+Each line of a report as text, and of `locate`, in the cases must have a form of docs/reports.txt, and each form there must be a line of a case."""
 
 import json
 import re
@@ -40,6 +42,12 @@ IN_TEXT = {"events": re.compile(r"  (\{.*\})"), "boot": re.compile(r"[a-z_]+ [^{
 CONTENT = "content"
 EXAMPLE = re.compile(r"^    (\{.*\})$", re.MULTILINE)
 TABLE = re.compile(r"^(\|.*\| Member \|)\n\|[-|]*\n((?:\|.*\n)*)", re.MULTILINE)
+# How the last line of a report begins, by the parts of docs/reports.txt; the part of each command; a form of a line there, and what its words are.
+ENDS = {"verify": ("verdict ", "signature not checked"), "locate": ("located", "not located")}
+REPORTS = {"verify": "verify", "attest": "verify", "replay": "verify", "locate": "locate"}
+FORM = re.compile(r"^  (\S.*?)(?:  |$)", re.MULTILINE)
+LEFT_OUT = "..."
+WORDS = {"BANK": "sha(?:1|256|384|512)", "HEX": r"[0-9a-f]*(?:\.\.\.)?", "LINE": r"\S.*", "STATE": "(?:un)?safe", "R..": r"\d+(?: \d+)*"}
 # The definition for each layout of event data.
 LAYOUTS = {"A command": "command_data", "A variable": "variable", "An image": "image_data", "A partition table": "gpt", "A partition": "partition",
            "A blob, or a described one": "blob", "A tagged event": "tagged", "A load option": "load_option", "A signature": "signature",
@@ -122,6 +130,27 @@ def lines_of_case(case, command, shared):
     if not agrees(wanted, lines) and not agrees(wanted[: len(lines)], lines):
         raise form.Malformed(command.line, "the reference answers otherwise")
     return lines
+
+
+def reports_of_cases():
+    """The part of docs/reports.txt for each report that a case shows as text, the case, and the lines of the report that are shown."""
+    for case in map(form.read_case, form.case_files()):
+        for command in case.commands:
+            part = REPORTS.get(command.words[0] if command.words else None)
+            if part and command.wanted and command.wanted[-1].startswith(ENDS[part]):
+                yield part, f"{case.name}:{command.line}", [line for line in command.wanted if line != LEFT_OUT]
+
+
+def forms_of_reports():
+    """The forms of the lines in each part of docs/reports.txt."""
+    _, *parts = (ROOT / "docs/reports.txt").read_text().split("\n\n")
+    return {part.split(",")[0].split(":")[0]: {line: pattern_of(line) for line in FORM.findall(part)} for part in parts}
+
+
+def pattern_of(line):
+    """The pattern of a line of this form: a capital letter stands for a number."""
+    words = (WORDS.get(word, r"\d+" if re.fullmatch("[A-Z]", word) else re.escape(word)) for word in line.split(" "))
+    return re.compile(" ".join(f"(?:{word})" for word in words))
 
 
 # What the schema has.
@@ -285,6 +314,19 @@ class Schema(harness.TestCase):
         faults = [f"{name}: no line of the cases has the value {value}" for name, value in sorted(named - seen.values - NOWHERE, key=str)]
         faults += [f"{name}: the cases have the value {value}" for name, value in NOWHERE & seen.values]
         self.check_all("values", len(named) - len(faults), faults)
+
+    def test_reports(self):
+        """docs/reports.txt has the lines of reports in the cases"""
+        forms, seen, passed, faults = forms_of_reports(), set(), 0, []
+        self.check("parts of reports.txt", sorted(forms), sorted(ENDS))
+        for part, title, lines in reports_of_cases():
+            for line in lines:
+                found = {(part, name) for name, pattern in forms[part].items() if pattern.fullmatch(line)}
+                passed += bool(found)
+                faults += [] if found else [f"{title}: no form of reports.txt has: {line}"]
+                seen |= found
+        self.check_all("lines of reports", passed, faults)
+        self.check("forms that no case has", {(part, name) for part in forms for name in forms[part]} - seen, set())
 
     def test_samples(self):
         """lines that the reference answers"""

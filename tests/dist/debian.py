@@ -52,7 +52,8 @@ FILES = {
                           f"{MAN}/man3/ima_verify.3.gz"],
     "python3-ima-verify": [],
     "fleet-verify": ["lib/systemd/system/fleet-poll.service", "lib/systemd/system/fleet-poll.timer", "usr/lib/sysusers.d/fleet-verify.conf",
-                     "etc/fleet-verify/poll.conf", f"{DOC}/fleet-verify/fleet.md"],
+                     "etc/fleet-verify/poll.conf", f"{DOC}/fleet-verify/fleet.md",
+                     *(f"usr/share/ima-agent/grafana/{name}" for name in ("alerts.yaml", "dashboard.json", "fleet.prom"))],
 }
 MODULES = {"python3-ima-verify": ("bindings/python", "ima_verify", ["METADATA"]),
            "fleet-verify": ("fleet", "fleet_verify", ["METADATA", "entry_points.txt"])}

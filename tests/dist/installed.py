@@ -41,6 +41,7 @@ OTHERS = {
 FLEET = {
     "share/doc/ima-agent/": ["fleet.md"], "share/man/man1/": ["fleet-verify.1", "ima-report.1"],
     "share/ima-agent/systemd/": ["fleet-poll.service", "fleet-poll.timer", "fleet-verify.conf", "poll.conf"],
+    "share/ima-agent/grafana/": ["alerts.yaml", "dashboard.json", "fleet.prom"],
     "share/ima-agent/python/": ["fleet_verify-VERSION-py3-none-any.whl", "ima_verify-VERSION-py3-none-manylinux_2_N_x86_64.whl"],
 }
 

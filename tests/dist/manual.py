@@ -1,30 +1,30 @@
 """Compares the manual pages of docs/man/ with what they describe.
 
 - ima-agent.1: commands, synopses, options with their values and defaults, and statuses are those of the program's help, which has at most 40
-  lines for a command. Tables and lines of faults are those of docs/errors.txt, lines of reports those of docs/reports.txt, members those of
-  docs/schema.json.
-- ima_verify.3: functions with their types, and constants, are those of the header. It names no other function.
+  lines for a command. An option of several commands may be among the shared ones. Lines of errors are those of docs/errors.txt. The page names
+  the files that have the rest, which a release has.
+- ima_verify.3: functions with their types are those of the header. It names no other function, and no constant that the header lacks.
 - ima-attest.1, ima-enroll.1, ima-collect.1: the options are those of the usage.
 - fleet-verify.1, ima-report.1: options with their values and defaults are those of the help. The statuses of the first are those of
   docs/fleet.md, of the second those of its help."""
 
-import json
 import os
 import re
 import subprocess
 
 import help as helps
+import pages
 from harness import ROOT
-from header import constants_of, functions_of
+from header import CONSTANT, constants_of, functions_of, header_of
 
 MACROS = re.compile(r"^\.(?:It|Li|Ql|Pa|Cm|Ar|Fl|Dv|Fn|Fa|Dq|Xr|Pq|Sx)\b")
 # The functions of the header that make inputs.
 HELPERS = {"ima_verify_text", "ima_verify_none"}
-# A table of docs/errors.txt and its rows; a line of docs/reports.txt, who has it, and what it means.
-TABLE = re.compile(r"^([A-Z][a-z]+ faults) \(.*\n((?:(?: {1,2}[0-9]+  .*| {5,}.*)\n)+)", re.MULTILINE)
-REPORTED = re.compile(r"^  (?P<line>\S.*?) {2,}(?:(?P<of>\S+(?: \S+)*) {2,})?(?P<text>\S.*)$")
-# The kinds of docs/schema.json whose members the page has, of which each is on a line of its own.
-KINDS = (("verify", "attest", "replay"), ("places",), ("pcrs",), ("key",))
+# The part of ima-agent.1 with options of several commands, and what it refers to.
+SHARED = "Shared options"
+PAGES = {"attest.md", "errors.txt", "json.md", "layouts.txt", "reports.txt", "schema.json"}
+RESULTS = re.compile(r"^enum ima_verify_result \{.*?^\};", re.MULTILINE | re.DOTALL)
+DEFINED = re.compile(r"^#define (IMA_VERIFY_\w+)", re.MULTILINE)
 MOST_LINES = 40  # (of a command's help)
 # An option in the help of a command in Python, and its default.
 PYTHONS = re.compile(r"^  (?:-(?P<short>\w), )?--(?P<name>[a-z0-9-]+)(?: (?P<value>[A-Z_]+))?(?: {2,}(?P<help>\S.*))?$")
@@ -123,45 +123,23 @@ def check_synopses(page, commands):
         yield from differences(title, [name.strip("<[]>.").lower() for name in command.arguments], arguments)
 
 
-def errors_in(rows):
-    """The errors of a table by number: what is wrong, and what to do."""
-    for found, action in helps.joined(rows.splitlines(), helps.ROW):
-        yield found["number"], f"{found['text']}. {' '.join(action)}"
-
-
-def check_faults(page):
-    """The tables of faults, and the lines of faults, are those of docs/errors.txt."""
+def check_errors(page):
+    """The lines of errors are those of docs/errors.txt."""
     errors = (ROOT / "docs/errors.txt").read_text()
-    wanted = {title: dict(errors_in(rows)) for title, rows in TABLE.findall(errors)}
-    found = {title: dict(page.items(title)) for title in page.parts if title.endswith(" faults")}
-    yield from differences(page.name, list(wanted), list(found))
-    for title, rows in wanted.items():
-        yield from differences(f"{page.name}: {title}", list(rows.items()), list(found.get(title, {}).items()))
     lines = re.findall(r"^  (?:refused|failed): (.*?) +(?:[a-z_0-9]+|-) +[0-9]  ", errors, re.MULTILINE)
     said = plain(page.part("DIAGNOSTICS")).lower()
     yield from (f"{page.name}: lacks the line of a fault: {line}" for line in lines if line.lower() not in said)
-    if len(lines) < 10 or len(wanted) < 10:
-        yield "docs/errors.txt: where are the lines and the tables of faults?"
+    if len(lines) < 10:
+        yield "docs/errors.txt: where are the lines of errors?"
 
 
-def check_reports(page):
-    """The lines of reports, and of `locate`, are those of docs/reports.txt, with who has them and what they mean."""
-    _, *parts = (ROOT / "docs/reports.txt").read_text().split("\n\n")
-    for title, part in zip(("Reports", "Places"), parts):
-        rows = helps.joined(part.splitlines()[1:], REPORTED)
-        wanted = [(f"Li {row['line']}", " ".join([f"{row['of']}: {row['text']}" if row["of"] else row["text"], *more])) for row, more in rows]
-        yield from differences(f"{page.name}: {title}", wanted, page.items(title))
-        if len(wanted) < 5:
-            yield f"docs/reports.txt: where are the lines of {title}?"
-
-
-def check_members(page):
-    """The members of reports, places, PCRs and keys are those of docs/schema.json."""
-    kinds = json.loads((ROOT / "docs/schema.json").read_text())["$defs"]
-    wanted = [member for group in KINDS for member in {name: None for kind in group for name in kinds[kind]["properties"]}]
-    lines = [line for line in page.part("JSON") if line.startswith(".Li ")]
-    found = re.findall(r"[a-z_]+", " ".join(line.removeprefix(".Li ") for line in lines if line != ".Li fault"))
-    yield from differences(f"{page.name}: JSON", sorted(wanted), sorted(found))
+def check_pages(page):
+    """The page names these files, which a release puts where the page says."""
+    named = {name for part in page.parts.values() for line in part for name in re.findall(r"\bPa ([^\s,]+)", line)}
+    yield from differences(f"{page.name}: pages", sorted(PAGES), sorted(name for name in named if re.fullmatch(r"[\w-]+\.(?:txt|md|json)", name)))
+    yield from (f"{page.name}: a release lacks {name}" for name in sorted(PAGES - {*pages.PAGES}))
+    if f"{pages.DOCS}/" not in named:
+        yield f"{page.name}: does not name {pages.DOCS}/"
 
 
 def check_lengths(program, commands):
@@ -179,15 +157,28 @@ def check_program(program):
     yield from differences(page.name, [command.name for command in commands], titles)
     for command in commands:
         options = [option for option in command.options if option.name != "help"]
-        yield from check_options(f"{page.name}: {command.name}", options, page.items(command.name))
+        yield from check_options(f"{page.name}: {command.name}", options, [*shared_by(page, command), *page.items(command.name)])
+    yield from check_shared(page, commands)
     yield from check_options(page.name, whole.options, page.items("Other options"))
     yield from check_synopses(page, commands)
-    yield from check_faults(page)
-    yield from check_reports(page)
-    yield from check_members(page)
+    yield from check_errors(page)
+    yield from check_pages(page)
     yield from check_lengths(program, commands)
     statuses = {number: None for command in [whole, *commands] for number in command.statuses}
     yield from differences(f"{page.name}: statuses", list(statuses), [head for head, _ in page.items("EXIT STATUS")])
+
+
+def shared_by(page, command):
+    """The shared options that a command has."""
+    names = {option.name for option in command.options}
+    return [item for item in page.items(SHARED) if names & options_in([item]).keys()]
+
+
+def check_shared(page, commands):
+    """Each shared option is of several commands."""
+    for name in options_in(page.items(SHARED)):
+        if sum(name in {option.name for option in command.options} for command in commands) < 2:
+            yield f"{page.name}: {SHARED}: {name} is not of several commands"
 
 
 def check_library():
@@ -201,8 +192,12 @@ def check_library():
     told = set(re.findall(r"\bFn (\w+)", "\n".join(lines))) - HELPERS
     yield from (f"{page.name}: says nothing of {name}" for name in wanted if name not in told)
     yield from (f"{page.name}: tells of {name}, which the header lacks" for name in sorted(told - set(wanted)))
-    constants = dict(re.findall(r"^\.It Dv (\w+) No \((\d+)\)", "\n".join(lines), re.MULTILINE))
-    yield from differences(page.name, list(constants_of(ROOT).items()), list(constants.items()))
+    header = header_of(ROOT)
+    results = re.findall(r"^\.It Dv (\w+) No \((\d+)\)", "\n".join(page.part("RETURN VALUES")), re.MULTILINE)
+    yield from differences(f"{page.name}: results", CONSTANT.findall(RESULTS.search(header)[0]), results)
+    named = set(re.findall(r"\bIMA_VERIFY_\w+", "\n".join(lines)))
+    lacking = named - {*constants_of(ROOT), *DEFINED.findall(header)}
+    yield from (f"{page.name}: names {name}, which the header lacks" for name in sorted(lacking))
 
 
 def check_usage(name, usage):

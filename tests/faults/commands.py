@@ -40,8 +40,8 @@ NO_PARTS = {"tests/attest/emulated.py", "tests/bindings/answers.py", "tests/bind
             "tests/faults/error_tables.py", "tests/fleet/quoted.py"}
 
 # What stands in for rt. `ci` works in the copy that ./ima-agent makes, whose program writes its source and its arguments, and ends with
-# the status that its first argument names. FAIL has it fail, and NOTHING make nothing; DURING is a command that it runs meanwhile; `try` says
-# that a run ended so. The program and `try` write what they are given, which a build must not take.
+# the status that its first argument names. FAIL has it fail, and NOTHING make nothing; DURING is a command that it runs meanwhile; `try` takes
+# so many seconds, says something, and that a run ended so. The program and `try` write what they are given, which a build must not take.
 STAND_IN = """#!/bin/sh
 case $1 in
 version) cat "${0%/bin/rt}/KIT-ID" ;;
@@ -68,8 +68,10 @@ lib)
     ;;
 try)
     shift
+    sleep "${TAKING:-0}"
     printf '<%s>\\n' "$@"
     cat
+    [ -z "${SAID:-}" ] || printf '%s\\n' "$SAID" >&2
     echo "$ENDED" >&2
     ;;
 esac
@@ -380,6 +382,45 @@ class Commands(harness.TestCase):
         self.check("try: a file above the folder is refused", tried("show", "../inputs/log")[0], NOT_BUILT)
         for words in (("--save", "x"), ("--save=x",)):
             self.check(f"try: {words[0]} is refused", tried("verify", *words)[0], NOT_BUILT)
+
+    def test_try_says(self):
+        """What ./try says on standard error: what the program says, and not how the kit ends."""
+        first, ended = "try: nothing is proved of the program that answers now; ./ima-agent proves it first\n", "run=ended status=2 runners=1 proved=no"
+        lacking, checked = "interpreter: no-answer: a call", "checked: ended status=2\nraces: not looked for"
+
+        def said(text, ended=ended, **settings):
+            status, _, errors = self.tree.call("show", command="try", SAID=text, ENDED=ended, **settings)
+            return status, errors.removeprefix(first)
+
+        sentence = "ima.list: entry 39: it is cut short"
+        for title, text, wanted in (
+            ("nothing", "", ""), ("a sentence", sentence, f"{sentence}\n"), ("nothing but the kit's lines", checked, ""),
+            ("a sentence, and the kit's lines", f"{sentence}\n{checked}", f"{sentence}\n"),
+            ("all lines of the kit", f"{sentence}\n{lacking}\n{checked}", f"{sentence}\n"),
+            ("two sentences", f"a\n\n{sentence}\n{checked}", f"a\n\n{sentence}\n"),
+            ("a sentence that begins as the kit's line", f"races: a\n{sentence}\n{checked}", f"races: a\n{sentence}\n"),
+            ("words for a format", f"%s \\n *\n{checked}", "%s \\n *\n"),
+        ):
+            self.check(f"try: passed on: {title}", said(text), (2, wanted))
+        self.check("try: without an answer all is shown", said(f"{sentence}\n{checked}", "run=none"),
+                   (NOT_BUILT, f"{sentence}\n{checked}\nrun=none\ntry: there is no answer\n"))
+        times = re.compile(r"try: compiling the program, then running it: (\d+) s so far, some 3 minutes on an idle computer\n")
+        status, errors = said(f"{sentence}\n{checked}", TAKING="11")
+        found = [int(seconds) for seconds in times.findall(errors)]
+        self.check("try: it says each 10 seconds what it does", (status, found[:1] in ([10], [11]), times.sub("", errors)), (2, True, f"{sentence}\n"))
+
+    def test_try_alone(self):
+        """Without arguments ./try shows at once what to begin with: README's first two commands."""
+        calls = re.findall(r"^    (?:\$ )?(\./(?:try|check) .*)$", (ROOT / "README.md").read_text(), re.MULTILINE)
+        self.check("README has two commands to begin with", [call.split()[:2] for call in calls], [["./try", "verify"], ["./check", "--quick"]])
+        for path in (os.environ["PATH"], "/none"):
+            status, answer, said = self.tree.call(command="try", PATH=path, SAID="started", ENDED="run=ended status=0 ")
+            self.check("try: no arguments", (status, answer, said.splitlines()[2:], "started" in said), (NOT_BUILT, "", calls, False))
+        words = calls[0].split()[1:]
+        found = self.tree.call(*words, command="try", folder=ROOT, ENDED="run=ended status=0 ")[:2]
+        given = "".join(f"<--data>\n<{word}={ROOT}/{word}>\n" for word in words if word.startswith("samples/"))
+        self.check("try: README's first command", found, (0, given + "".join(f"<{word}>\n" for word in ("--", *words))))
+        self.check("try: it names samples", given.count("--data"), 3)
 
 
 class Gates(harness.TestCase):

@@ -1,10 +1,12 @@
 #!/usr/bin/env python3
-"""Writes the rows of the tables of errors in docs/errors.txt and docs/man/ima-agent.1, as crates/error_texts has them.
+"""Writes the rows of the tables of errors in docs/errors.txt, as crates/error_texts has them.
 
 tests/faults/error_tables.py
 
-Each error has there what is wrong, and what to do. The headings of the tables are those of the files. words.py compares the rows."""
+Each error has there what is wrong, and what to do, which rows in a row with the same advice have once, after the last of them. The headings of
+the tables are those of the file. words.py compares the rows."""
 
+import itertools
 import re
 import sys
 import textwrap
@@ -21,9 +23,9 @@ CONSTANT = re.compile(r'const (\w+): &str =\s*"(.*)";')
 ROW = re.compile(r'(\d+) => row\(\s*"(.*)",\s*(?:"(.*)"|(\w+)),?\s*\)')
 # Tables that are parts of others.
 WHOLES = {"asked": "quote", "purpose": "key"}
-# A table of docs/errors.txt, and one of the manual.
+PAGE = ROOT / "docs/errors.txt"
+# One of its tables.
 SECTION = re.compile(r"^([A-Z][a-z]+) faults \(.*\n((?: +.*\n)+)", re.MULTILINE)
-PART = re.compile(r"^\.Ss ([A-Z][a-z]+) faults\n(?:.*\n)*?\.Bl .*\n((?:.*\n)*?)\.El\n", re.MULTILINE)
 
 
 class Sentence(NamedTuple):
@@ -48,39 +50,25 @@ def tables_in(root):
     return {name: dict(sorted(rows.items())) for name, rows in tables.items()}
 
 
-def lines_of_text(rows):
-    """The rows of a table of docs/errors.txt."""
-    for number, row in rows.items():
-        yield f"{number:>3}  {row.wrong}\n"
-        yield from (f"{line}\n" for line in textwrap.wrap(row.action, WIDTH, initial_indent=" " * 5, subsequent_indent=" " * 5))
+def lines_of(rows):
+    """The rows of a table."""
+    for action, group in itertools.groupby(rows.items(), lambda row: row[1].action):
+        yield from (f"{number:>3}  {row.wrong}\n" for number, row in group)
+        yield from (f"{line}\n" for line in textwrap.wrap(action, WIDTH, initial_indent=" " * 5, subsequent_indent=" " * 5))
 
 
-def lines_of_manual(rows):
-    """The rows of a table of the manual: each sentence is on a line of its own."""
-    for number, row in rows.items():
-        yield f".It {number}\n{row.wrong}.\n"
-        yield from (f"{line}\n" for line in re.split(r"(?<=\.) (?=[A-Z])", row.action))
-
-
-def with_rows(text, pattern, lines_of, tables):
-    """The text with the rows of these tables. A table that one of both lacks is an error."""
-    names = [found[1] for found in pattern.finditer(text)]
+def made(root):
+    """The text that docs/errors.txt should have. A table that it or the sources lack is an error."""
+    text, tables = PAGE.read_text(), tables_in(root)
+    names = [found[1] for found in SECTION.finditer(text)]
     if sorted(names) != sorted(tables):
         raise ValueError(f"tables {names}, and not {[*tables]}")
     parts, end = [], 0
-    for found in pattern.finditer(text):
+    for found in SECTION.finditer(text):
         parts += [text[end : found.start(2)], *lines_of(tables[found[1]])]
         end = found.end(2)
     return "".join([*parts, text[end:]])
 
 
-def made(root):
-    """Each file that has the tables, with the text that it should have."""
-    tables = tables_in(root)
-    for name, pattern, lines_of in (("docs/errors.txt", SECTION, lines_of_text), ("docs/man/ima-agent.1", PART, lines_of_manual)):
-        yield ROOT / name, with_rows((ROOT / name).read_text(), pattern, lines_of, tables)
-
-
 if __name__ == "__main__":
-    for path, text in made(ROOT):
-        path.write_text(text)
+    PAGE.write_text(made(ROOT))

@@ -15,7 +15,7 @@ sys.path[:0] = [str(Path(__file__).resolve().parents[1])]
 import harness  # noqa: E402
 
 TOOLS = ("swtpm*", "tpm2*", "openssl", "jq", "go", "gofmt", "cargo*", "rust*", "mypy*", "pytest*", "ruff", "*staticcheck", "chromium*",
-         "systemd-analyze", "localedef", "git")
+         "systemd-analyze", "promtool", "localedef", "git")
 MODULES = ("cryptography", "dask", "distributed", "fsspec", "hatchling", "jinja2", "mypy", "prometheus_client", "yaml")
 HIDING = """
 import sys

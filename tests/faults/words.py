@@ -3,7 +3,7 @@
 
 tests/faults/words.py [ROOT]: the tree whose crates are read, or else the one that this file is in.
 
-The tables of docs/errors.txt and of the manual must be those of crates/error_texts, as error_tables.py writes them.
+The tables of docs/errors.txt must be those of crates/error_texts, as error_tables.py writes them.
 
 A fault is displayed by its `#[error("..")]`; the program tells it to a terminal. The faults with a number must have the sentences of the tables
 of docs/errors.txt, or others that words.txt has by table and number. All others, and the texts of `agent_inputs/src/fault.rt` and of
@@ -111,8 +111,7 @@ class Words(harness.TestCase):
     words = dict(line.split(": ", 1) for line in (HERE / "words.txt").read_text().splitlines())
 
     def test_tables(self):
-        for path, text in error_tables.made(self.root):
-            self.check(f"the tables of {path.name}", path.read_text(), text)
+        self.check("the tables of errors.txt", error_tables.PAGE.read_text(), error_tables.made(self.root))
 
     def test_other_sentences(self):
         """A sentence of words.txt is another than that of its table."""

@@ -40,9 +40,19 @@ for family in text_string_to_metric_families(open(sys.argv[1]).read()):
 """
 
 
-CAUSES = {
-    "refused": "nothing to compare: no register is expected", "unreadable": "list: FileNotFoundError: [Errno 2] No such file or directory",
+REASONS = {
+    "differ": "SHA-256 PCR 10 differs.",
+    "refused": "Nothing to compare: expected.txt states no PCR. Collect expected.txt again, or judge the machine by a quote.",
+    "unreadable": "The measurement list cannot be read: it is not there. Copy the machine's files again.",
 }
+
+
+# What the library says of a log that is cut short, and what is said of a machine that differs in several ways.
+CUT = "The firmware event log is damaged at event {}: it is cut short. Copy it."
+DIFFERING = (
+    "No value is expected for SHA-256 PCR 4; the boot aggregate is not the log's; log and list do not make the quoted PCRs; entries are of unknown "
+    "files; an entry of the list extends PCR 9."
+)
 
 
 def spoil(folder, number, kind):
@@ -87,7 +97,10 @@ def test_outputs(tools):
     folder = tools.folder / "outputs"
     machines = make_machines(folder, 1)
     run, buffered = ("--workers", "1", "--unquoted", "--require", REQUIRE, machines), {**tools.environment, "PYTHONUNBUFFERED": ""}
-    for title, number in (("a full disk", errno.ENOSPC), ("a pipe that nobody reads", errno.EPIPE), ("no output", errno.EBADF)):
+    for title, number, reason in (
+        ("a full disk", errno.ENOSPC, "the disk is full"), ("a pipe that nobody reads", errno.EPIPE, "nobody reads the output"),
+        ("no output", errno.EBADF, "the output is closed"),
+    ):
         table = folder / f"{title}.db"
         calls = {
             "a run": ("verify.py", *run, table), "a run, as JSON": ("verify.py", "--json", *run, folder / f"{title}, as JSON.db"),
@@ -104,7 +117,7 @@ def test_outputs(tools):
                     env=buffered, cwd=tools.folder, stdout=full if number == errno.ENOSPC else pipe, stderr=subprocess.PIPE, timeout=SECONDS,
                 )
             told = [line for line in done.stderr.splitlines() if " done: " not in line]
-            found = (done.returncode, len(told), f"[Errno {number}] {os.strerror(number)}" in told[-1] if told else False)
+            found = (done.returncode, len(told), told[-1].partition("; run")[0].endswith(reason) if told else False)
             tools.check(f"{name}, and {title}", found, (3, 1, True))
         found = query(table, "SELECT (SELECT count(*) FROM verdicts), (SELECT count(*) FROM ends)")
         tools.check(f"a run, and {title}: it has no end", found, [(1, 0)])
@@ -138,8 +151,8 @@ def test_statuses(tools):
         lines = "".join(f"{kind} {count}\n" for kind, count in counts.items())
         tools.check(f"the status with {kinds}", (status, output), (wanted, lines))
         told = [line for line in errors.splitlines() if line.startswith("fleet-verify: ")]
-        causes = [f"fleet-verify: {kind} {counts[kind]}: {CAUSES[kind]}" for kind in ("refused", "unreadable") if counts[kind]]
-        tools.check(f"the causes with {kinds}", told, causes)
+        reasons = [f"fleet-verify: {kind} {counts[kind]}: {reason}" for kind, reason in REASONS.items() if counts[kind]]
+        tools.check(f"the reasons with {kinds}", told, reasons)
         change(table, "UPDATE found SET verdict = 'failed' WHERE verdict = 'unreadable'")
         tools.check(f"the status with {kinds}, and failed", tools.verify("--workers", 1, "--again", "none", machines, table)[0], wanted)
 
@@ -154,7 +167,7 @@ def test_json(tools):
     status, output, errors = tools.verify("--workers", 1, "--poll", "--json", machines, table, TZ="Asia/Kolkata")
     told = json.loads(output)
     found = (status, output.count("\n"), told["status"], "fleet-verify: " in errors)
-    tools.check("--json: one line, and no causes beside it", found, (1, 1, 1, False))
+    tools.check("--json: one line, and no reasons beside it", found, (1, 1, 1, False))
     found = {name: told[name] for name in ("poll", "machines", "verdicts", "retired", "not_matching_more")}
     counts = dict(zip(KINDS, (1, 1, 1, 1, 0)))
     tools.check("--json: counts", found, {"poll": 1, "machines": 4, "verdicts": counts, "retired": 0, "not_matching_more": 0})
@@ -166,20 +179,21 @@ def test_json(tools):
     tools.check("times are in UTC, whatever the time zone", are_right, 7 * [True])  # (of the end, four machines, a poll and its end)
     tools.check("--json: ages", 0 <= told["oldest_match_seconds"] <= told["seconds"] <= (now - begun).total_seconds(), True)
     tools.check("--json: the rate", abs(told["machines_a_second"] - 4 / told["seconds"]) < 0.1, True)
-    gone, nothing = "list: FileNotFoundError: [Errno 2] No such file or directory", "nothing to compare: no register is expected"
+    gone, nothing = "list: it is not there", "nothing to compare: no register is expected"
     [(expected, value)] = query(table, "SELECT expected, value FROM registers WHERE machine = 'machine 2' AND state = 'differ'")
     differing = {
-        "machine": "machine 2", "verdict": "differ", "cause": None, "boot_aggregate": "good",
+        "machine": "machine 2", "verdict": "differ", "cause": None, "reason": REASONS["differ"], "boot_aggregate": "good",
         "registers": [{"bank": "sha256", "register": 10, "expected": expected, "state": "differ", "value": value}], "extends": [], "quote": None,
         "unknown": None, "first_unknown": None,
     }
     named = [
-        differing, {"machine": "machine 1", "verdict": "refused", "cause": nothing},
-        {"machine": "machine 0", "verdict": "unreadable", "cause": gone},
+        differing, {"machine": "machine 1", "verdict": "refused", "cause": nothing, "reason": REASONS["refused"]},
+        {"machine": "machine 0", "verdict": "unreadable", "cause": gone, "reason": REASONS["unreadable"]},
     ]
     tools.check("--json: who does not match", told["not_matching"], named)
-    reasons = {(row["verdict"], row["cause"], row["machines"]) for row in told["reasons"]}
-    tools.check("--json: why", reasons, {("match", None, 1), ("differ", None, 1), ("refused", nothing, 1), ("unreadable", gone, 1)})
+    reasons = {(row["verdict"], row["cause"], row["machines"], row["reason"]) for row in told["reasons"]}
+    causes = {"match": None, "differ": None, "refused": nothing, "unreadable": gone}
+    tools.check("--json: why", reasons, {(verdict, cause, 1, REASONS.get(verdict)) for verdict, cause in causes.items()})
     status, output, _ = tools.verify("--workers", 1, "--json", machines, table)
     tools.check("--json of a run that is refused: nothing", (status, output), (2, ""))
     test_standing(tools, folder)
@@ -211,7 +225,7 @@ def test_standing(tools, folder):
 
 
 def test_told(tools):
-    """Those that do not match are told in the order of their verdicts, with all that a report says; and the three most frequent causes."""
+    """Those that do not match are told in the order of their verdicts, with all that a report says; and the three most frequent reasons."""
     row, strays = {"bank": "sha256", "register": 4, "state": "missing"}, [{"entry": 7, "register": 9}]
     report = {"registers": [{**row, "register": 3, "state": "match"}, row], "extends": strays, "quote": "differ", "verdict": "differ"}
     answers = {
@@ -223,17 +237,21 @@ def test_told(tools):
         table.record([(Machine(name, (f"/{name}",)), {**answer, "time": "now"}) for name, answer in answers.items()], ())
         summary, faults = Summary(), Summary()
         summary.look(table)
-        cut = {f"h{number}": {"verdict": "refused", "cause": f"refused: log fault 1 at event {number}", "time": "now"} for number in range(9)}
-        table.record([(Machine(name, (f"/{name}",)), answer) for name, answer in cut.items()], ())
+        causes = {f"h{number}": (f"refused: log fault 1 at event {number}", CUT.format(number)) for number in range(9)}
+        cut = {name: {"verdict": "refused", "cause": cause, "reason": reason} for name, (cause, reason) in causes.items()}
+        table.record([(Machine(name, (f"/{name}",)), {**answer, "time": "now"}) for name, answer in cut.items()], ())
         faults.look(table)
     first, *others = summary.named
     tools.check("--json: what a report says", first, {
-        "machine": "g", "verdict": "differ", "cause": None, "boot_aggregate": "wrong", "registers": [row], "extends": strays, "quote": "differ",
+        "machine": "g", "verdict": "differ", "cause": None, "reason": DIFFERING, "boot_aggregate": "wrong", "registers": [row], "extends": strays,
+        "quote": "differ",
         "unknown": 2, "first_unknown": 7,
     })
     tools.check("--json: the order of those without a report", [each["machine"] for each in others], ["e", "f", "c", "d", "b"])
-    tools.check("the most frequent causes", summary.causes, ["failed 2: x", "refused 1: y", "refused 1: z"])
-    tools.check("the most frequent cause, at several places", faults.causes[0], "refused 9: refused: log fault 1 at event ..")
+    more = "2 more reasons: see the view `reasons`, or `fleet-verify page`"
+    tools.check("the most frequent reasons", summary.lines, ["failed 2: X.", f"differ 1: {DIFFERING}", "refused 1: Y.", more])
+    wanted = "refused 9: The firmware event log is damaged: it is cut short. Copy it."
+    tools.check("the most frequent reason, at several places", faults.lines[0], wanted)
     for age, wanted in ((math.inf, None), (None, None), (90.04, 90.0)):
         told = json.loads(Summary(counts={"match": 1}, oldest_match=age).json, parse_constant=lambda name: f"{name} is no JSON")
         tools.check(f"--json: an age of {age} seconds", told["oldest_match_seconds"], wanted)

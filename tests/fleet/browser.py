@@ -15,9 +15,9 @@ from datetime import datetime, timedelta, timezone
 from urllib.parse import quote
 
 from cluster import SECONDS
-from page_tree import Reader, every, foreign, hostile_texts, lacks_jinja
-from pages import hostile_table, listed_table, page_of
-from reports import hostile_boot, make_boot, most_known, program_of, report_text
+from page_tree import Reader, every, foreign, hostile_texts, lacks_jinja, rows_below
+from pages import answer_of, hostile_table, listed_table, make_table, page_of
+from reports import SAMPLES, hostile_boot, hostile_words, make_boot, most_known, program_of, report_text
 
 CHROMIUM = (
     "--headless=new", "--disable-gpu", "--hide-scrollbars", "--no-first-run", "--disable-background-networking", "--disable-component-update",
@@ -75,10 +75,12 @@ def test_browser(tools):
     with listening() as (port, asked):
         fleet, boot = folder / "fleet.html", folder / "boot.html"
         fleet.write_text(page_of(tools, hostile_table(folder, port))[1])
-        boot.write_text(report_text(tools, hostile_boot(folder / "boot", port))[1])
+        boot.write_text(report_text(tools, hostile_boot(folder / "boot", port), *hostile_words())[1])
         test_nothing_runs(tools, folder, (fleet, boot), port, asked)
     test_search(tools, folder, fleet, boot)
+    test_sorting(tools, folder)
     test_pictures(tools, folder, fleet)
+    test_narrow(tools, folder, boot)
 
 
 def test_nothing_runs(tools, folder, pages, port, asked):
@@ -149,6 +151,39 @@ def test_search(tools, folder, fleet, boot):
         tools.check(f"{title}: its age", said, [age] if age else [])
 
 
+# What somebody does on a page: presses the buttons in the heads of these columns of the table below a heading, one after another.
+PRESS = """
+{{
+  const table = document.getElementById("{heading}").parentElement.querySelector("div[aria-labelledby={heading}] table");
+  for (const column of {columns}) table.tHead.rows[0].cells[column].querySelector("button").click();
+}}
+"""
+
+
+def test_sorting(tools, folder):
+    """Each column sorts, once up and pressed again down, and numbers in names count as numbers. Without the script all rows are there."""
+    hosts = {f"host-{number}": answer_of("differ", number, others=(4,) if number % 2 else (10,)) for number in (2, 10, 1, 33)}
+    page = without_policy(page_of(tools, make_table(folder / "sorted.db", {**hosts, "a": answer_of("refused", cause="x")}))[1])
+    cases = (
+        ("no", "problems", [], ["host-1", "host-2", "host-10", "host-33", "a"]), ("a name", "problems", [0], ["a", "host-1", "host-2", "host-10", "host-33"]),
+        ("a name twice", "problems", [0, 0], ["host-33", "host-10", "host-2", "host-1", "a"]),
+        ("a name, and then a verdict", "problems", [0, 0, 1], ["host-33", "host-10", "host-2", "host-1", "a"]),
+        ("a reason, and then a name", "problems", [2, 0], ["a", "host-1", "host-2", "host-10", "host-33"]),
+        ("a count", "reasons", [0], ["1", "2", "2"]), ("a count twice", "reasons", [0, 0], ["2", "2", "1"]),
+    )
+    calls = []
+    for _, heading, columns, _ in cases:
+        script = PRESS.format(heading=heading, columns=columns)
+        calls.append((changed(folder, f"{page}<script>{script}</script>"), "--dump-dom", "--virtual-time-budget=2000"))
+    titles = {"problems": "Machines that do not match", "reasons": "Reasons"}
+    for (title, heading, columns, wanted), (shown, complaints) in zip(cases, browse_all(tools, calls)):
+        top = Reader(shown).top
+        found = [row[0] for row in rows_below(top, titles[heading])]
+        marks = [head.attributes["aria-sort"] for head in top.all("th") if "aria-sort" in head.attributes]
+        wanted_marks = (["descending"] if columns[-2:] == [0, 0] else ["ascending"]) if columns else []
+        tools.check(f"sorted by {title}", (found, marks, complaints), (wanted, wanted_marks, []))
+
+
 def aged(folder, page, hours):
     """The page, made so many hours ago."""
     return changed(folder, re.sub(r'datetime="[^"]*"', f'datetime="{datetime.now(timezone.utc) - timedelta(hours=hours)}"', page.read_text()))
@@ -191,6 +226,32 @@ def test_pictures(tools, folder, fleet):
     tools.check("pictures of the page: light and dark", grounds, [(0xFF, 0xFF, 0xFF), (0x14, 0x18, 0x1D)])
     tools.check("pictures of the page: there is something on them", min(path.stat().st_size for path in (light, dark)) > 20_000, True)
     tools.check("the page on paper", paper.read_bytes()[:5], b"%PDF-")
+
+
+# Tells the page around how wide a page is shown, how wide it is, and which of its parts end beyond that.
+MEASURED = """
+const wide = Array.from(document.querySelectorAll("body *")).filter((each) => each.getBoundingClientRect().right > innerWidth + 1);
+parent.postMessage(`${innerWidth} ${document.documentElement.scrollWidth} ${wide.map((each) => each.tagName)}`, "*");
+"""
+PHONE = 390
+
+
+def test_narrow(tools, folder, boot):
+    """On a phone nothing of the page of a boot is cut, or beside the screen; with a table that is not in cards something would be."""
+    earlier = folder / "earlier.html"
+    words = ("--before", SAMPLES / "ovmf-boot/systemd-boot.log")
+    earlier.write_text(report_text(tools, make_boot(folder / "of two boots"), *words, "--known", most_known(folder))[1])
+    uncarded = changed(folder, re.sub('class="cards( sides)?"', "", earlier.read_text()))
+    pages = {"hostile texts": boot, "two boots": earlier, "two boots, without cards": uncarded}
+    frames = []
+    for page in pages.values():
+        measured = changed(folder, f"{without_policy(page.read_text())}<script>{{ {MEASURED} }}</script>")
+        frame = f'<iframe src="{measured.name}" width="{PHONE}" height="800"></iframe>'
+        frames.append(changed(folder, f"<!DOCTYPE html><title></title><script>onmessage = (told) => document.title = told.data</script>{frame}"))
+    for title, (shown, _) in zip(pages, browse_all(tools, [(frame, "--dump-dom", "--virtual-time-budget=4000") for frame in frames])):
+        width, whole, *beyond = title_of(shown).split(" ", 2)
+        is_cut = "without" in title
+        tools.check(f"on a phone: {title}", (width, int(whole) > PHONE or bool("".join(beyond))), (str(PHONE), is_cut))
 
 
 def first_pixel(data):

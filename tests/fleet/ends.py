@@ -13,8 +13,8 @@ from fleet_verify.versions import FIRST
 from tables import counted, noted_calls, query, rows_of, times_of
 
 NOTES = Path(__file__).with_name("noted_calls.py")
-# A line beside the counts of a run: a cause, and how many machines have it.
-CAUSE = re.compile(r"fleet-verify: (refused|unreadable|failed) \d+: ")
+# A line beside the counts of a run: a reason, and how many machines have it.
+CAUSE = re.compile(r"fleet-verify: ((match|differ|refused|unreadable|failed) \d+: |\d+ more reasons: )")
 
 # Preloaded by workers: each of the first ones, as many as the file DEATHS has bytes, ends at its start.
 DYING = """
@@ -122,7 +122,7 @@ def test_signals(ends):
         recorded = times_of(table)
         ends.check(f"{name}: status and output", (client.returncode, output), (3, ""))
         ends.check(f"{name} came in the middle", 0 < len(recorded) < len(ends.fleet.rows), True)
-        ends.check_said(name, name, "stopped: a signal came; the same command goes on")
+        ends.check_said(name, name, "stopped: by a signal; run the same command again to resume")
         ends.check_rest(name, name, recorded)
 
 
@@ -140,7 +140,7 @@ def test_early_signals(ends):
         for name, client in begun:
             output = client.communicate(timeout=SECONDS)[0]
             ends.check(f"{name}: status and output", (client.returncode, output), (3, ""))
-            ends.check_said(name, name, "stopped: a signal came; the same command goes on")
+            ends.check_said(name, name, "stopped: by a signal; run the same command again to resume")
 
 
 def test_own_worker_killed(ends):
@@ -245,7 +245,7 @@ def test_left_threads(ends):
     for number in range(0, 24, 2):
         name = f"machine {number}"
         lines[number] = f"{name}\tstuck://log\tstuck://list\tstuck://expected\n"
-        wanted[name] = ("unreadable", "TimeoutError: no answer in time", None, None, None, None, [])
+        wanted[name] = ("unreadable", "no answer in time", None, None, None, None, [])
     machines.write_text("".join(lines))
     for title, text in (("leaving", LEAVING), ("limited", LIMITED)):
         module, table = (ends.tools.folder / f"{title}.{kind}" for kind in ("py", "db"))
@@ -274,7 +274,7 @@ def test_no_library(ends):
     table = ends.tools.folder / "none.db"
     given = {"IMA_VERIFY_LIBRARY": str(ends.tools.folder / "none.so")}
     status, _, errors = ends.tools.verify("--workers", 1, ends.fleet.table, table, **given)
-    found = (status, "ImportError" in errors, "the same command" in errors, "Traceback" in errors)
+    found = (status, "is not there, or not the library" in errors, "same command" in errors, "Traceback" in errors)
     ends.check("no library: status and cause", found, (3, True, False, False))
     ends.check("no library: nothing is recorded", counted(table), 0)
 
@@ -289,7 +289,7 @@ def test_no_dask(ends):
     (lacking / f"distributed-{FIRST}.dist-info/METADATA").write_text(f"Metadata-Version: 2.1\nName: distributed\nVersion: {FIRST}\n")
     given = {"PYTHONPATH": f"{lacking}:{ends.tools.environment['PYTHONPATH']}"}
     status, output, errors = ends.tools.verify("--scheduler", "tls://127.0.0.1:1", ends.fleet.table, table, **given)
-    found = (status, output, "--scheduler needs the package distributed: it is not there" in errors, "the same command" in errors)
+    found = (status, output, "--scheduler needs the package distributed: it is not there" in errors, "same command" in errors)
     ends.check("no Dask: a scheduler", found, (2, "", True, False))
     status, _, _ = ends.tools.verify("--workers", 1, ends.fleet.table, table, **given)
     ends.check("no Dask: workers", (status, rows_of(table)), (1, ends.fleet.rows))

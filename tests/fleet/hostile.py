@@ -11,9 +11,9 @@ from contextlib import contextmanager
 from pathlib import Path
 
 ROOT = Path(__file__).resolve().parents[2]
-NO_FILE = "OSError: it is no regular file"
-LINK = "OSError: it is a symbolic link"
-LATE = "TimeoutError: no answer in time"
+NO_FILE = "it is no regular file"
+LINK = "it is a symbolic link"
+LATE = "no answer in time"
 TEBIBYTE = 1 << 40
 
 # Appends to a file without end, until its input ends or the file has so many bytes.
@@ -112,5 +112,5 @@ def hostile_machines(folder, good):
         if hangs:
             made.append(("a mount that hangs", folder / "never", "unreadable", LATE))
         if forbids:
-            made.append(("a mount of another", folder / "not ours", "unreadable", "log: PermissionError: [Errno 13] Permission denied"))
+            made.append(("a mount of another", folder / "not ours", "unreadable", "log: permission denied"))
         yield made

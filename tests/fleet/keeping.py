@@ -169,12 +169,12 @@ def test_quoted_report(tools):
 def test_own_columns(tools):
     """Whatever a worker answers: whose verdict it is, of which files, and by what, is as the run knows it."""
     told = {"machine": "b", "log": "/b", "list": "/b", "expected": "/b", "required": "none", "hcrtm": 1, "old_kernel": 1,
-            "known_sha256": "aa"}
+            "prefix": 1, "known_sha256": "aa", "matched": "then"}
     with closing(Verdicts(str(tools.folder / "own columns.db"), REQUIRE)) as table:
         machine = Machine("a", ("/log", "/list", "/expected"))
-        table.record([(machine, {**answer_of(machine), **told})], ())
+        table.record([(machine, {**answer_of(machine), **told, "time": "now"})], ())
         found = table.connection.execute(f"SELECT {', '.join(told)} FROM verdicts").fetchall()
-    tools.check("a worker that answers what only the run knows", found, [("a", "/log", "/list", "/expected", REQUIRE, 0, 0, None)])
+    tools.check("a worker that answers what only the run knows", found, [("a", "/log", "/list", "/expected", REQUIRE, 0, 0, 0, None, "now")])
 
 
 def test_pruned_beside(tools):

@@ -65,14 +65,14 @@ def test_refused(tools, folder, table, first):
         ("a wrong line of a later file", ["--known", first, "--known", first, "--known", wrong], f"{wrong}: line 2: known fault 2"),
         ("a wrong line at the end of a file, and a later file", ["--known", wrong, "--known", first], f"{wrong}: line 2: known fault 2"),
         ("a digest by SHA-1", ["--known", first, "--known", weak], f"{weak}: line 1: known fault 1"),
-        ("no file", ["--known", folder / "none"], "No such file or directory"),
+        ("no file", ["--known", folder / "none"], "it is not there"),
         ("no regular file", ["--known", fifo], "it is no regular file"),
         ("a folder", ["--known", folder], "it is no regular file"),
     ):
         status, output, errors = tools.verify("--workers", 1, *words, table, verdicts)
         tools.check(f"refused known files: {title}", (status, output, told in errors, verdicts.exists()), (2, "", True, False))
     status, output, errors = tools.verify("--workers", 1, "--known", first, table, verdicts, require="none")
-    told = "--known needs required registers" in errors
+    told = "--known needs required PCRs" in errors
     tools.check("refused known files: nothing is required", (status, output, told, verdicts.exists()), (2, "", True, False))
 
 

@@ -74,17 +74,28 @@ class Reader(HTMLParser):
 
 def rows_below(page, title):
     """The cells of the first table's rows that follows the heading with this title, as texts."""
+    return tables_below(page, title)[0]
+
+
+def tables_below(page, title):
+    """The cells of the rows of each table between the heading with this title and the next one, as texts; the tables of its first heading first."""
     heading = next(each for each in page.all("h2") if each.text == title)
     part = heading.parent.inner[heading.parent.inner.index(heading) + 1:]
-    table = next(table for each in part if not isinstance(each, str) for table in ([each] if each.tag == "table" else each.all("table")))
-    body = next(table.all("tbody"))
-    return [[cell.text.strip() for cell in row.inner if not isinstance(cell, str)] for row in body.all("tr")]
+    found, ended = [], False
+    for each in part:
+        if not isinstance(each, str):
+            ended |= each.tag == "h2"
+            if not ended or not found:
+                found += [each] if each.tag == "table" else each.all("table")
+    return [
+        [[cell.text.strip() for cell in row.inner if not isinstance(cell, str)] for row in next(table.all("tbody")).all("tr")] for table in found
+    ]
 
 
 def state_of(page):
-    """The text of the page's head, and whether it has the colour of a match."""
+    """The text of the page's head, and whether it has the colour of a match, be it one that nobody signed."""
     (state,) = [each for each in page.all("div") if each.attributes.get("class", "").startswith("state")]
-    return state.text, state.attributes["class"] == "state match"
+    return state.text, state.attributes["class"] != "state"
 
 
 def every(element):

@@ -18,13 +18,14 @@ from fleet_verify.plot import bars_of, plot_of
 from fleet_verify.reading import now
 from fleet_verify.verdicts import VERDICTS, Verdicts
 from page_tree import Reader, folded, foreign, hostile_texts, lacks_jinja, rows_below, state_of
-from tables import change
+from tables import change, query
 
 TEMPLATES = ROOT / "fleet/fleet_verify/templates"
 GOOD = "e8ed95b94e8d66f42e5b9be4d794dc0c7701e2360f03537fe59e9ba861a8024f"
 OTHER = "a2bcf779880ae33077f9e7992851299f30cea5f6cffc6512de6cd10aa457a7f3"
 MOMENT_AGO = "UPDATE ends SET time = strftime('%Y-%m-%dT%H:%M:%f+00:00', 'now', '-5 seconds')"
 
+CUT = "The firmware event log is damaged{}: its bytes are not all there. Copy the log again."
 AHEAD = "UPDATE {} SET time = strftime('%Y-%m-%dT%H:%M:%f+00:00', 'now', '+30 seconds')"
 
 
@@ -82,6 +83,10 @@ def test_pages(tools):
     folder = tools.folder / "pages"
     folder.mkdir()
     test_listed(tools, folder)
+    test_names(tools, folder)
+    test_last_match(tools, folder)
+    test_prefixes(tools, folder)
+    test_size(tools, folder)
     test_parts_of(tools, folder)
     test_times(tools, folder)
     test_bars(tools, folder)
@@ -102,10 +107,11 @@ def listed_table(path):
     first = {
         "good": answer_of("match", 1), "late": answer_of("match", 2), "ten": answer_of("match", 3),
         "two": answer_of("differ", 4, others=(0, 10)), "moved": answer_of("differ", 5, boot_aggregate="wrong", told={"extends": strays}),
-        "strange": answer_of("differ", 6, unknown=3, first_unknown=93), "cut": answer_of("refused", cause="refused: log fault 1 at event 24"),
-        "cut too": answer_of("refused", cause="refused: log fault 1 at event 3"),
+        "strange": answer_of("differ", 6, unknown=3, first_unknown=93),
+        "cut": answer_of("refused", cause="refused: log fault 1 at event 24", reason=CUT.format(" at event 24")),
+        "cut too": answer_of("refused", cause="refused: log fault 1 at event 3", reason=CUT.format(" at event 3")),
         "left": answer_of("differ", 9, others=(10,)), "anew": answer_of("match", 10, resets=1, restarts=0),
-        "gone": answer_of("unreadable", cause="list: FileNotFoundError: [Errno 2] No such file or directory"),
+        "gone": answer_of("unreadable", cause="list: it is not there"),
     }
     second = {
         **first, "anew": answer_of("match", 10, resets=2, restarts=0), "late": answer_of("differ", 2, others=(10,)),
@@ -135,12 +141,16 @@ def test_listed(tools, folder):
     tools.check("a page: each row can be found by its verdict", kinds, {(kind, kind) for kind in VERDICTS[:4]})
     rows = {row[0]: row[1:] for row in rows_below(page, "Machines that do not match")}
     tools.check("a page: who does not match", list(rows), ["late", "moved", "strange", "ten", "two", "cut", "cut too", "gone"])
-    tools.check("a page: registers with their values", rows["two"][1], "".join(f"sha256 {number} differ {OTHER}, expected {GOOD}" for number in (0, 10)))
-    tools.check("a page: what extends", rows["moved"][1], "boot aggregate wrongan event extends PCR 10: event 25")
-    tools.check("a page: unknown entries", rows["strange"][1], "unknown entries: 3, the first is entry 93")
-    tools.check("a page: a cause", rows["cut"][:2], ["refused", "refused: log fault 1 at event 24"])
+    values = "".join(f"PCR {number} {OTHER}, expected {GOOD}" for number in (0, 10))
+    tools.check("a page: registers with their values", rows["two"][1], f"SHA-256 PCRs 0, 10 differ.{values}")
+    wanted = "The boot aggregate is not the log's; an event of the log extends PCR 10.event 25 extends PCR 10"
+    tools.check("a page: what extends", rows["moved"][1], wanted)
+    tools.check("a page: unknown entries", rows["strange"][1], "Entries are of unknown files.unknown entries: 3, the first is entry 93")
+    tools.check("a page: a cause", rows["cut"][:2], ["refused", f"{CUT.format(' at event 24')} refused: log fault 1 at event 24"])
     names = [[each.text for each in group.all("li")] for group in page.all("ul") if group.attributes.get("class") == "names"]
-    tools.check("a page: who matches, and who is retired", names, [["anew", "good"], ["left 2026-11-29 10:00:00"]])
+    times = dict(query(table, "SELECT machine, substr(replace(time, 'T', ' '), 1, 19) FROM verdicts"))
+    wanted = [[f"{name} {times[name]}" for name in ("anew", "good")], ["left 2026-11-29 10:00:00"]]
+    tools.check("a page: who matches, and who is retired", names, wanted)
     tools.check("a page: nothing foreign", foreign(page), [])
     test_shared(tools, page)
     test_changes(tools, table, page)
@@ -151,7 +161,7 @@ def test_parts_of(tools, folder):
     good, bad, quoted = answer_of("match", 1), answer_of("differ", 2, others=(4,)), {"signer": "d" * 64, "quote_age": 1.0, "nonce": "00"}
     always = ["Reasons", "Changes over time", "Machines that do not match", "Machines that match"]
     no_reason, no_poll, nobody, none = (
-        "No machine has a verdict other than match.", "This table has no polls, and so no changes.", "None: no machine has a verdict.", "None.",
+        "No machine has a verdict other than match.", "This table has no polls, so there are no changes.", "None: no machine has a verdict.", "None.",
     )
     for title, polls, more, told in (
         ("no machine", {}, [], [no_reason, no_poll, nobody, none]), ("a match", {"a": good}, [], [no_reason, no_poll, none]),
@@ -170,10 +180,10 @@ def test_parts_of(tools, folder):
 def test_shared(tools, page):
     """What several machines have in common is said once."""
     reasons = rows_below(page, "Reasons")
-    tools.check("a page: reasons, the same of several machines once", reasons[0], ["2", "differ", "sha256 10 differ", "late, ten"])
-    wanted = ["2", "refused", "refused: log fault 1 at event", "cut, cut too"]
+    tools.check("a page: reasons, the same of several machines once", reasons[0], ["2", "differ", "SHA-256 PCR 10 differs.", "late, ten"])
+    wanted = ["2", "refused", CUT.format(""), "cut, cut too"]
     tools.check("a page: faults at different places are one reason", wanted in reasons, True)
-    wanted = ["3", f"sha256 10 differ {OTHER}", "late, ten, two"]
+    wanted = ["3", f"SHA-256 PCR 10: {OTHER}", "late, ten, two"]
     tools.check("a page: a value that several have", rows_below(page, "PCRs that do not match")[0], wanted)
 
 
@@ -200,7 +210,7 @@ def test_times(tools, folder):
     page = shown_page(tools, make_table(folder / "times.db", polls))
     first, second = "2026-11-01 10:00:00", "2026-11-02 10:00:00"
     rows = rows_below(page, "Machines that do not match")
-    tools.check("a page: since when", [row[3:] for row in rows], len(names) * [[first, f"{second}, poll 2"]])
+    tools.check("a page: since when", [row[3:] for row in rows], len(names) * [[first, "never", f"{second}, poll 2"]])
     tools.check("a page: ten names of more", rows_below(page, "Reasons")[0][3], f"{', '.join(names[:10])} and 2 more")
     (part,) = [each for each in page.all("details") if next(each.all("summary")).text == "The last 24 changes"]
     rows = [[cell.text for cell in row.inner if not isinstance(cell, str)] for row in next(part.all("tbody")).all("tr")]
@@ -208,6 +218,80 @@ def test_times(tools, folder):
         *([name, "reboot, differ", "resets 2, restarts 0", "2", second] for name in reversed(names)),
         *([name, "differ", "", "1", first] for name in reversed(names)),
     ])
+
+
+def named(page):
+    """The texts of the lists of names, one after another."""
+    return [each.text for group in page.all("ul") if group.attributes.get("class") == "names" for each in group.all("li")]
+
+
+def test_names(tools, folder):
+    """Names are in the order in which people count, wherever they are listed."""
+    names = ["host-1", "host-2", "host-10", "host-10a", "host-100", "hosts", "x\u0663", "x12"]  # (\u0663 is the digit 3)
+    for title, kind, words in (("do not match", "differ", {"others": (4,)}), ("match", "match", {})):
+        answers = {name: answer_of(kind, number, **words) for number, name in enumerate(reversed(names))}
+        page = shown_page(tools, make_table(folder / f"names that {title}.db", answers))
+        if kind == "match":
+            found = [text[: -len(" 2026-11-29 10:00:00")] for text in named(page)]
+        else:
+            found = [row[0] for row in rows_below(page, "Machines that do not match")]
+            tools.check("names of a reason", rows_below(page, "Reasons")[0][3], ", ".join(names))
+        tools.check(f"names of machines that {title}", found, names)
+
+
+def test_last_match(tools, folder):
+    """When each machine last matched: by the poll before, by one long before, or never."""
+    def of_day(day, kind):
+        return answer_of(kind, 1, others=() if kind == "match" else (4,), time=f"2026-11-0{day}T10:00:00.000+00:00")
+
+    match, differ = "match", "differ"
+    kinds = {"late": (match, match, differ), "long": (match, differ, differ), "never": 3 * (differ,), "good": (differ, match, match)}
+    table = make_table(folder / "last match.db", [{name: of_day(poll + 1, kind[poll]) for name, kind in kinds.items()} for poll in range(3)])
+    page = shown_page(tools, table)
+    found = {row[0]: row[4] for row in rows_below(page, "Machines that do not match")}
+    tools.check("a page: the last match", found, {"late": "2026-11-02 10:00:00", "long": "2026-11-01 10:00:00", "never": "never"})
+    good = "good 2026-11-03 10:00:00"
+    tools.check("a page: the last match of one that matches", named(page), [good])
+    wanted = ["long differ, matched 2026-11-01 10:00:00", "never differ, never matched", good]
+    tools.check("a page: the last match of those that are only named", named(shown_page(tools, "--most", 1, table)), wanted)
+
+
+def test_prefixes(tools, folder):
+    """A match that covers only the first entries of a list is told from one of the whole list, in the head and by its numbers."""
+    def of(entries, confirmed, **more):
+        told = {"entries": entries, **({} if confirmed is None else {"confirmed": confirmed}), **more}
+        return answer_of("match", entries, entries=entries, confirmed=confirmed, told=told)
+
+    after = {"kind": "list", "number": 1, "entry": 97, "message": "unconfirmed: list fault 1 at entry 97"}
+    answers = {"grown": of(100, 99), "still": of(99, 99), "whole": of(98, None), "cut": of(97, 97, unconfirmed=after)}
+    table = make_table(folder / "prefixes.db", answers)
+    page = shown_page(tools, table)
+    text, _ = state_of(page)
+    told = "2 of these matches cover only the first entries of a list. Nothing confirms the entries after them."
+    tools.check("a page: a prefix is told in its head", told in text, True)
+    rows = rows_below(page, "Matches of which only the first entries are confirmed")
+    tools.check("a page: how much of a list is confirmed", rows, [["cut", "97", "97", "bytes that are no entry"], ["grown", "99", "100", "1"]])
+    tools.check("the view of prefixes", query(table, "SELECT * FROM prefixes ORDER BY 1"), [("cut", 97, 97, 0), ("grown", 99, 100, 1)])
+    del answers["grown"], answers["cut"]
+    page = shown_page(tools, make_table(folder / "no prefixes.db", answers))
+    found = ("first entries" in state_of(page)[0], [each.text for each in page.all("h2") if "first entries" in each.text])
+    tools.check("a page: matches of whole lists", found, (False, []))
+
+
+def test_size(tools, folder):
+    """The page of 5,000 machines of which none matches, each by all PCRs with values of its own, is a page that a browser opens."""
+    def of(number):
+        value = f"{number:064x}"
+        rows = [{"bank": "sha256", "register": place, "expected": value, "state": "differ", "value": value[::-1]} for place in range(24)]
+        return answer_of("differ", number, told={"registers": rows})
+
+    status, text, _ = page_of(tools, make_table(folder / "large.db", {f"host-{number}.example.com": of(number) for number in range(5000)}))
+    rows = rows_below(Reader(text).top, "Machines that do not match")
+    tools.check("the page of 5,000 machines: its size", (status, len(text.encode()) < 2_000_000), (0, True))
+    found = (len(rows), rows[0][2].count("expected"), rows[0][2][-11:])
+    tools.check("the page of 5,000 machines: its rows, and the values of one", found, (1000, 3, "and 21 more"))
+    names = re.findall(r"<bdi class=.text.>(host-\d+\.example\.com)</bdi>", text)
+    tools.check("the page of 5,000 machines: each is there", len(set(names)), 5000)
 
 
 def test_bars(tools, folder):
@@ -268,7 +352,7 @@ def test_states(tools, folder):
     for title, polls, edit, words, told, is_wanted in (
         ("all match", match, None, (), "All 2 machines match", True),
         ("all match by polls", [match, match], None, (), "All 2 machines match", True),
-        ("matches without a quote", match, None, (), "Matches without a quote: 2", True),
+        ("matches without a quote", match, None, (), "2 of these matches rest on unsigned PCR values.", True),
         ("one differs", differ, None, (), "1 of 2 machines match", False),
         ("no verdict", {}, None, (), "No machine has a verdict", False),
         ("a poll that has not ended", [match, match], "DELETE FROM ends WHERE poll = 2", (), "Poll 2 has not ended", False),
@@ -304,7 +388,7 @@ def test_refused_pages(tools, folder):
     with closing(sqlite3.connect(make_table(folder / "form.db", {"a": answer_of("match")}))) as connection:
         connection.execute("PRAGMA user_version = 1")
     for title, path, told in (
-        ("no file", folder / "none.db", "unable to open"), ("a folder", folder, f"refused: {folder}: "),
+        ("no file", folder / "none.db", "none.db: it is not there"), ("a folder", folder, f"refused: {folder}: "),
         ("another file", other, "no table of verdicts"), ("a text", folder / "text.db", "file is not a database"),
         ("a verdict that is none", damaged, "it is damaged"), ("another version", folder / "form.db", "another version"),
         ("a name with control characters", folder / "no\x1b[31m\n.db", "/no?[31m?.db: "),
@@ -317,7 +401,7 @@ def test_refused_pages(tools, folder):
         writer.execute("BEGIN IMMEDIATE")
         writer.execute("UPDATE found SET verdict = 'differ'")
         text, is_good = state_of(shown_page(tools, table))
-        tools.check("a page while a run writes: what was recorded before", ("All 1 machines match" in text, is_good), (True, True))
+        tools.check("a page while a run writes: what was recorded before", ("The only machine matches" in text, is_good), (True, True))
         writer.rollback()
     tools.check("a page leaves the table as it was", hashlib.sha256(table.read_bytes()).hexdigest(), before)
 
@@ -358,11 +442,13 @@ def test_quoted_table(tools, folder):
     wanted = [["b", "50 min", "3", "1"], ["c", "90 s", "3", "1"], ["a", "4 s", "3", "1"], ["d", "1 s", "3", "1"]]
     tools.check("quotes: the oldest first", [row[:4] for row in rows], wanted)
     tools.check("quotes: keys", [row[4] for row in rows], [letter * 64 for letter in "eedf"])
-    found = ("4 of 6 machines were judged by a quote." in next(page.all("main")).text, "Matches without a quote: 2." in state_of(page)[0])
+    unsigned = "2 of these matches rest on unsigned PCR values." in state_of(page)[0]
+    found = ("4 of 6 machines were judged by a quote." in next(page.all("main")).text, unsigned)
     tools.check("quotes: how many machines have one", found, (True, True))
     facts = [each.text for each in next(page.all("main")).all("li") if "PCR" in each.text]
-    wanted = ["log and list do not make the quoted PCRs", "an event extends PCR 10: event 25", "an entry extends PCR 9: entry 7"]
-    tools.check("quotes: why a machine differs", facts, wanted)
+    tools.check("quotes: where a machine differs", facts, ["event 25 extends PCR 10", "entry 7 extends PCR 9"])
+    wanted = "Log and list do not make the quoted PCRs; an event of the log extends PCR 10; an entry of the list extends PCR 9."
+    tools.check("quotes: why a machine differs", rows_below(page, "Reasons")[0][2], wanted)
     told = [each.text for each in page.all("div") if each.text.startswith("One key signed for 2 machines: b, c")]
     tools.check("quotes: one key of two machines is told", len(told), 1)
     test_quote_ages(tools, folder, quote)
@@ -398,6 +484,7 @@ def hostile_table(folder, port):
     answers = {text: answer_of("refused", cause=f"cause {text}") for text, _ in hostile_texts(port)}
     table = make_table(folder / "hostile.db", [{**answers, "bytes": answer_of("unreadable", cause="x")}])
     change(table, "UPDATE found SET machine = CAST(x'636166e93c623e' AS TEXT) WHERE machine = 'bytes'")
+    change(table, "UPDATE found SET reason = cause")  # (by another hand, which cleans nothing)
     return table
 
 
@@ -425,10 +512,14 @@ def test_moment(tools, table):
 
 
 def test_templates(tools):
-    """No template prints a text in an attribute, nor lets anything pass unescaped; and all colours can be read on their grounds."""
+    """No template prints a text in an attribute, nor lets anything pass unescaped; and all colours can be read on their grounds. (The address of a
+    report has no character that means something: `page_reports.py` tries that.)"""
     allowed = {
-        "policy", "made", "verdict", "each.verdict", "each.kind", "state", "place.left", "place.width", "piece.top", "piece.height", "plot.width",
+        "policy", "made", "verdict", "links[each.machine].path",
+        "each.verdict", "each.kind", "state", "place.left", "place.width", "piece.top", "piece.height", "plot.width",
         "plot.height", "plot.left", "plot.bottom - 1", "top", "top + 4", "plot.left - 8", "plot.height - 8", "class", "classes[piece.kind]",
+        # (words of the template and of `Boot` alone, and a number)
+        "label", "name", "kinds or state", "step.part", "boot.look", "boot.look if boot.word == 'match' else boot.word", "each.register",
     }
     for file in sorted(TEMPLATES.glob("*.html")):
         text = file.read_text()

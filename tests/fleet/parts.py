@@ -136,7 +136,9 @@ class Workers:
         pass
 async def stop(table, seconds):
     workers, verdicts = Workers(), Verdicts(table, "none")
-    options = SimpleNamespace(in_flight=2, poll=False, require="none", unquoted=True, max_age=None, patience=600, deadline=60)
+    options = SimpleNamespace(
+        in_flight=2, poll=False, require="none", unquoted=True, max_age=None, patience=600, deadline=60, hcrtm=False, old_kernel=False, prefix=False
+    )
     show = SimpleNamespace(show=lambda *_: None)
     ledger = Ledger(verdicts, MACHINES, {}, False, lambda *_: None)
     running = asyncio.create_task(Run(workers, ledger, show, options).verify())
@@ -166,7 +168,7 @@ async def start():
     started.append(await asyncio.create_subprocess_exec("/bin/sh", "-c", "exec >&-; sleep 1; exit 0", **pipes))
     return started[-1]
 async def run():
-    options = SimpleNamespace(require="none", poll=False, unquoted=True, max_age=None, deadline=60)
+    options = SimpleNamespace(require="none", poll=False, unquoted=True, max_age=None, deadline=60, hcrtm=False, old_kernel=False, prefix=False)
     async with local.LocalWorkers(1, options, None) as workers:
         while not any(worker.has_ended for worker in workers.running):
             await asyncio.sleep(0.01)
@@ -187,7 +189,7 @@ from fleet_verify.worker import FIRST, Message
 killed = []
 process = SimpleNamespace(pid=1, stdin=SimpleNamespace(write=lambda data: None), kill=lambda: killed.append(True))
 async def run():
-    options = SimpleNamespace(require="none", poll=False, unquoted=True, max_age=None, deadline=60)
+    options = SimpleNamespace(require="none", poll=False, unquoted=True, max_age=None, deadline=60, hcrtm=False, old_kernel=False, prefix=False)
     workers, worker = local.LocalWorkers(1, options, None), local.Worker(process, has_begun=True)
     workers.running.append(worker)
     for _ in range(2):
@@ -225,7 +227,7 @@ async def start():
     pipes = dict.fromkeys(("stdin", "stdout"), asyncio.subprocess.PIPE)
     return await asyncio.create_subprocess_exec(sys.executable, "-c", BEGINS, **pipes)
 async def run():
-    options = SimpleNamespace(require="none", poll=False, unquoted=True, max_age=None, deadline=60)
+    options = SimpleNamespace(require="none", poll=False, unquoted=True, max_age=None, deadline=60, hcrtm=False, old_kernel=False, prefix=False)
     async with local.LocalWorkers(1, options, None) as workers:
         while workers.lost() is None:
             await asyncio.sleep(0.01)
@@ -233,7 +235,7 @@ async def run():
 local.start = start
 asyncio.run(run())
 """
-STARTS_WANTED = ["40 10 workers, one after another, could not be started: OSError"]
+STARTS_WANTED = ["40 10 workers, one after another, could not be started: unexpected error, OSError"]
 
 # Asks a worker whether it can verify, where this process would load modules from the folder of the call, which has some.
 ELSEWHERE = """
@@ -243,7 +245,7 @@ import asyncio, os
 from types import SimpleNamespace
 from fleet_verify import local
 async def run():
-    options = SimpleNamespace(require="none", poll=False, unquoted=True, max_age=None, deadline=60)
+    options = SimpleNamespace(require="none", poll=False, unquoted=True, max_age=None, deadline=60, hcrtm=False, old_kernel=False, prefix=False)
     async with local.LocalWorkers(1, options, None) as workers:
         while not workers.threads and workers.lost() is None:
             await asyncio.sleep(0.01)
@@ -273,10 +275,10 @@ print(cause_of(RuntimeError(chr(27) + "]0;x" + chr(7) + chr(10) + chr(0xdc80))))
 print(len(cause_of(RuntimeError(2000 * "x"))))
 """
 CAUSES_WANTED = [
-    "FileNotFoundError: ..", "FileNotFoundError: ..", "PermissionError: [Errno 13] Permission denied",
-    "RuntimeError: no answer from ..?", "MemoryError", "OSError: [Errno 22] Bad request: ..", "RuntimeError: the key .. does not exist",
-    "RuntimeError: .. is gone", "RuntimeError: no answer", "RuntimeError: no answer",
-    *4 * ["RuntimeError: .. is gone, and not /srv/a/b/log"], "RuntimeError: ?]0;x???", "1000",
+    "it is not there", "it is not there", "permission denied", "unexpected error, RuntimeError: no answer from ..?", "memory ran out",
+    "Bad request: ..", *(f"unexpected error, RuntimeError: {text}" for text in (
+        "the key .. does not exist", ".. is gone", "no answer", "no answer", *4 * [".. is gone, and not /srv/a/b/log"], "?]0;x???",
+    )), "1000",
 ]
 
 # Prints the paths of machines in folders, and what is said of the last, which has no such file.
@@ -291,7 +293,7 @@ print(read_inputs(machine.paths, math.inf, 0)[0]["cause"])
 """
 FOLDERS_WANTED = [
     "/firmware.log", "/srv/boot/firmware.log", "s3://bucket/firmware.log", "s3://bucket/x/firmware.log", "file:///firmware.log",
-    "log: FileNotFoundError: [Errno 2] No such file or directory",
+    "log: it is not there",
 ]
 
 # Prints what a worker says of itself with the library, of what may be required and what not, and then without it. A client that lacks
@@ -315,7 +317,7 @@ for text in (b"", digest + b"  /a", digest + b"  /a" + bytes([10]) + b"x", 40 * 
         require_fitness("sha256:0-10", True, text)
         print("fit")
     except Exception as fault:
-        print(type(fault).__module__, type(fault).__name__, *fault.args)
+        print(type(fault).__module__, type(fault).__name__, *fault.args[:2], *(isinstance(each, str) and len(each) > 20 for each in fault.args[2:]))
 print(required("none"), required("sha256:0-10"), repr(required("")))
 os.environ["IMA_VERIFY_LIBRARY"] = "/nowhere/libima_verify.so"
 ima_verify._library.loaded.cache_clear()
@@ -328,7 +330,7 @@ except ImportError as fault:
 """
 BARE = "IMA_VERIFY_LIBRARY is to be a path: a name alone would be that of a file in the folder of the call"
 FITNESS_WANTED = [
-    *4 * ["fit"], *8 * ["builtins ValueError True"], *2 * ["fit"], "builtins ValueError 2 2", "builtins ValueError 1 1",
+    *4 * ["fit"], *8 * ["builtins ValueError True"], *2 * ["fit"], "builtins ValueError 2 2 True", "builtins ValueError 1 1 True",
     "Nothing.NOTHING sha256:0-10 ''", *2 * ["builtins ImportError False"], f"ImportError {BARE}",
 ]
 
@@ -355,9 +357,10 @@ for name in sys.argv[1:]:
     print(name, *(f"{each.dest}={each.default}" for each in given), *others)
     print(name, *(each.dest for each in options if isinstance(each, Once)))
 """
+PAGE_DEFAULTS = f"page most=1000 max_age={24 * 60 * 60} known=[] most_reports=100 report_seconds=600 program=ima-agent"
 DEFAULTS_WANTED = [
     f"options in_flight=16000 deadline=60 patience=600 progress=10 keep={400 * 24 * 60 * 60}", "options require keys max_age again metrics",
-    "nonces", "nonces folder max_age", f"page most=2000 max_age={24 * 60 * 60}", "page", "reporting known=[] most=10000 seconds=600 program=ima-agent",
+    "nonces", "nonces folder max_age", PAGE_DEFAULTS, "page reports keys", "reporting known=[] most=10000 seconds=600 program=ima-agent",
     "reporting require before key nonce title",
 ]
 

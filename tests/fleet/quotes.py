@@ -44,7 +44,7 @@ OTHER_NONCE, LESS_QUOTED = "refused: quote fault 11", "refused: quote fault 12"
 CUT_SIGNATURE, NO_SCHEME, BAD_SIGNATURE, BAD_PEM = (f"refused: signature fault {number}" for number in (1, 2, 7, 9))
 NO_AREA, UNRESTRICTED = "refused: key fault 1", "refused: key fault 15"
 RSASSA, RSAPSS = (bytes.fromhex(f"{scheme}000b0100") for scheme in ("0014", "0016"))  # how a TPMT_SIGNATURE begins, by SHA-256, of 256 bytes
-ABSENT = "no quote: {}: FileNotFoundError: [Errno 2] No such file or directory"
+ABSENT = "no quote: {}: it is not there"
 
 # What happens before the second poll. All other machines' lists grow, but for those of an even number.
 STARTED_ANEW, SUSPENDED = (4, 9, 14), (7,)
@@ -180,8 +180,10 @@ class Quotes:
 
 
 # What the library says of a wrong argument, by its table of errors (crates/error_texts).
-SHORT_NONCE = ("Misuse: An argument is wrong. Write PCRs as in sha256:0-10. Require at least PCR 10; with a quote PCRs 0 to 10, and not in the SHA-1 "
-               "bank alone. A nonce has 16 bytes or more. Known files need required PCRs.")
+SHORT_NONCE = (
+    "unexpected error, Misuse: An argument is wrong. Write PCRs as in sha256:0-10. Require at least PCR 10; with a quote PCRs 0 to 10, and not in the "
+    "SHA-1 bank alone. A nonce has 16 bytes or more. Known files need required PCRs."
+)
 
 
 def test_quotes(tools):
@@ -431,14 +433,14 @@ def test_keys(tools):
     os.mkfifo(folder / "p/p.pub")
     (folder / "p.pem").write_text("p")
     wanted = {
-        "a": ("a", None), "b": ("b in a folder", None), "c": (None, "no key: NAME.pem cannot be read: OSError: it is no regular file"),
-        "d": (None, "no key: NAME.pem cannot be read: OSError: [Errno 40] Too many levels of symbolic links"),
-        "e": (None, "no key: NAME.pem has more than 16384 bytes"), "h": (None, "no key: NAME.pem cannot be read: OSError: it is no regular file"),
+        "a": ("a", None), "b": ("b in a folder", None), "c": (None, "no key: NAME.pem cannot be read: it is no regular file"),
+        "d": (None, "no key: NAME.pem cannot be read: too many symbolic links lead to it"),
+        "e": (None, "no key: NAME.pem has more than 16384 bytes"), "h": (None, "no key: NAME.pem cannot be read: it is no regular file"),
         "h.pem": ("h.pem", None), "i": ("a", None), "j": (16 * 1024 * "j", None), **dict.fromkeys(("f", "../out", "..", ".", "", "a.pem", "h/h", "i/i", "x" * 251), (None, None)),
-        "x" * 255: (None, "no key: NAME.pub cannot be read: OSError: [Errno 36] File name too long"),
+        "x" * 255: (None, "no key: NAME.pub cannot be read: its name is too long"),
         "k": ("pub of k", None), "l": ("pub of l", None), "m": ("pub of m", None), "o": ("pem of o", None),
-        "n": (None, "no key: NAME.pub cannot be read: OSError: it is no regular file"),
-        "p": (None, "no key: NAME/NAME.pub cannot be read: OSError: it is no regular file"),
+        "n": (None, "no key: NAME.pub cannot be read: it is no regular file"),
+        "p": (None, "no key: NAME/NAME.pub cannot be read: it is no regular file"),
     }
     tools.check("keys that are found: none in place of one that cannot be read", {name: key_of(str(folder), name) for name in wanted}, wanted)
     asked = Asked(REQUIRE, False, True, 60)
@@ -466,7 +468,7 @@ def test_nonces(quotes, verdicts):
     (folder / "machine 0").mkdir()
     (folder / "machine 1").unlink()
     status, _, errors = quotes.call(*words)
-    told = "1 nonces could not be written: machine 0: [Errno 21] Is a directory" in errors
+    told = "1 nonces could not be written; the first: machine 0: it is a folder" in errors
     quotes.check("nonces: a file that cannot be written", (status, told), (3, True))
     (folder / "machine 0").rmdir()
     (folder / "machine 0").write_text("")
@@ -685,7 +687,7 @@ ODD_QUOTES = {
     3: (lambda case: case.change("quote.sig", lambda data: RSASSA + data), "refused", BAD_SIGNATURE),
     4: (lambda case: case.change("quote.msg", lambda _: b""), "refused", BAD_SIGNATURE),
     5: (lambda case: case.change("quote.sig", lambda _: b""), "refused", CUT_SIGNATURE),
-    6: (Case.make_fifo, "unreadable", "quote: OSError: it is no regular file"),
+    6: (Case.make_fifo, "unreadable", "quote: it is no regular file"),
     7: (lambda case: os.truncate(case.folder / "quote.sig", MOST_BYTES + 1), "refused", "refused: too long signature"),
     8: (lambda case: case.quote(case.nonce, f"sha1:{LOW}"), "refused", LESS_QUOTED),
     9: (lambda case: case.sign_changed(lambda data: data[:-1]), "refused", "refused: quote fault 1"),

@@ -66,7 +66,9 @@ class Workers:
 SECOND = '{"worker": "here", "answers": [{"places": ["/b"], "verdict": "refused", "time": "now"}], "seconds": 1}'
 async def run(table, *ended):
     verdicts = Verdicts(table, "none")
-    options = SimpleNamespace(in_flight=2, poll=False, require="none", unquoted=True, max_age=None, patience=600, deadline=60, hcrtm=False, old_kernel=False)
+    options = SimpleNamespace(
+        in_flight=2, poll=False, require="none", unquoted=True, max_age=None, patience=600, deadline=60, hcrtm=False, old_kernel=False, prefix=False
+    )
     ledger = Ledger(verdicts, [Machine(name, (f"/{name}",)) for name in "ab"[:len(ended)]], {}, False, lambda *_: None)
     try:
         await asyncio.wait_for(Run(Workers(*ended), ledger, SimpleNamespace(show=lambda *_: None), options).verify(), 20)
@@ -83,7 +85,7 @@ for number, ended in enumerate((
 asyncio.run(run(f"{sys.argv[1]} both.db", ("error", RuntimeError("lost")), ("finished", SECOND)))
 """
 ERRORS_WANTED = [
-    *["CannotGoOn []"] * 6, "done [('failed', 'KilledWorker: each worker that verified it died')]", "CannotGoOn [('refused', None)]",
+    *["CannotGoOn []"] * 6, "done [('failed', 'each worker that verified it died')]", "CannotGoOn [('refused', None)]",
 ]
 
 # By these a table refuses to be written: by an error of SQLite that is none of its constraints, and by one that is.

@@ -55,8 +55,8 @@ def record_beside(table, name, verdict):
     with closing(sqlite3.connect(table, timeout=SECONDS)) as connection, connection:
         connection.execute("BEGIN IMMEDIATE")
         (number,) = connection.execute("SELECT ifnull(max(number), 0) + 1 FROM found").fetchone()
-        text = "INSERT INTO found (number, machine, verdict, required, hcrtm, old_kernel, log, list, expected) VALUES (?, ?, ?, ?, 0, 0, '', '', '')"
-        connection.execute(text, (number, name, verdict, REQUIRE))
+        columns = "number, machine, verdict, required, hcrtm, old_kernel, prefix, log, list, expected"
+        connection.execute(f"INSERT INTO found ({columns}) VALUES (?, ?, ?, ?, 0, 0, 0, '', '', '')", (number, name, verdict, REQUIRE))
         connection.execute("INSERT INTO given (number, time) VALUES (?, 'now')", (number,))
 
 

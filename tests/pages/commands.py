@@ -55,6 +55,7 @@ RUN = [
 ]
 # Blocks that no test takes from the page: why.
 NOT_RUN = [
+    ("README.md", "indented", "./check --quick", "it runs the tests; tests/faults/commands.py tries it with stand-ins"),
     ("docs/fleet.md", "indented", "/srv/boot", "a table of machines"),
     ("docs/performance.md", "indented", "tools/bench/run", "it measures for minutes, by hand"),
     ("bindings/go/README.md", "indented", "go mod edit", "tests/bindings/test gives the same arguments, with its own paths"),

@@ -136,8 +136,9 @@ def printed_by(commands, folder):
 
 
 def lay_out(folder):
-    """Makes a folder with the program, the samples, and what a reader of attest.md has of the sample boot."""
-    folder.joinpath("ima-agent").symlink_to(PROGRAM)
+    """Makes a folder with the program, also in the place of `./try`, the samples, and what a reader of attest.md has of the sample boot."""
+    for name in ("ima-agent", "try"):
+        folder.joinpath(name).symlink_to(PROGRAM)
     folder.joinpath("samples").symlink_to(ROOT / "samples")
     for sample in SAMPLE.iterdir():
         shutil.copy(sample, folder)

@@ -3,8 +3,9 @@
 
 tests/pages/words.py [ROOT]: the tree whose pages are counted, by default the one that this file is in.
 
-Words are counted as `wc -w` counts them: all that white space separates, in prose, tables and code alike. A page is a file *.md. Each has
-a bound here, and each bound a page. CHANGELOG.md has none, since it grows with each release. Tables of data in docs/*.txt are no pages."""
+Words are counted as `wc -w` counts them: all that white space separates, in prose, tables and code alike, and the macros of a manual page. A page
+is a file *.md, docs/*.txt, or a manual page. Each has a bound here, and each bound a page. CHANGELOG.md has none, since it grows with each release.
+"""
 
 import sys
 from pathlib import Path
@@ -14,7 +15,7 @@ import harness  # noqa: E402
 
 BOUNDS = {
     "README.md": 750,
-    "CONTRIBUTING.md": 3100,
+    "CONTRIBUTING.md": 2450,
     "bindings/go/README.md": 350,
     "bindings/python/README.md": 350,
     "bindings/rust/README.md": 350,
@@ -22,25 +23,38 @@ BOUNDS = {
     "dist/release.md": 400,
     "docs/assurance.md": 1800,
     "docs/attest.md": 1300,
-    "docs/calls.md": 1800,
+    "docs/calls.md": 1350,
     "docs/cli.md": 1800,
-    "docs/decisions.md": 3000,
-    "docs/definitions.md": 2200,
-    "docs/event-data.md": 1600,
+    "docs/decisions.md": 1900,
+    "docs/definitions.md": 1450,
+    "docs/errors.txt": 2550,
+    "docs/event-data.md": 1500,
+    "docs/examples.txt": 480,
     "docs/fleet.md": 1500,
-    "docs/formats.md": 3000,
-    "docs/investigate.md": 1500,
-    "docs/json.md": 800,
+    "docs/formats.md": 2750,
+    "docs/investigate.md": 1400,
+    "docs/json.md": 600,
+    "docs/layouts.txt": 2000,
     "docs/library.md": 1100,
+    "docs/man/fleet-verify.1": 1850,
+    "docs/man/ima-agent.1": 3700,
+    "docs/man/ima-attest.1": 1050,
+    "docs/man/ima-collect.1": 650,
+    "docs/man/ima-enroll.1": 850,
+    "docs/man/ima-report.1": 650,
+    "docs/man/ima_verify.3": 1300,
     "docs/performance.md": 600,
+    "docs/performance.txt": 750,
+    "docs/reports.txt": 600,
+    "docs/standards.txt": 180,
     "docs/trust.md": 700,
-    "docs/verdict.md": 1200,
+    "docs/verdict.md": 1150,
     "samples/README.md": 650,
     "tests/cases/README.md": 850,
 }
-MOST_OF_DOCS = 26_000  # (CONTRIBUTING.md and docs/*.md together)
+MOST_OF_DOCS = 40_000  # (README.md, CONTRIBUTING.md and docs/ together)
 UNBOUND = "CHANGELOG.md"
-PATTERNS = "*.md", "bindings/*/*.md", "dist/*.md", "docs/*.md", "samples/*.md", "tests/*/*.md"
+PATTERNS = "*.md", "bindings/*/*.md", "dist/*.md", "docs/*.md", "docs/*.txt", "docs/man/*", "samples/*.md", "tests/*/*.md"
 
 
 class Words(harness.TestCase):
@@ -57,10 +71,10 @@ class Words(harness.TestCase):
             self.check(f"{name}: there is such a page", False)
 
     def test_all(self):
-        """CONTRIBUTING.md and docs/ together"""
-        words = sum(count for name, count in self.words.items() if name == "CONTRIBUTING.md" or name.startswith("docs/"))
+        """README.md, CONTRIBUTING.md and docs/ together"""
+        words = sum(count for name, count in self.words.items() if name in ("README.md", "CONTRIBUTING.md") or name.startswith("docs/"))
         fault = None if words <= MOST_OF_DOCS else f"{words} words, and the bound is {MOST_OF_DOCS}"
-        self.check(f"CONTRIBUTING.md and docs/ together: {words} words", fault, None)
+        self.check(f"README.md, CONTRIBUTING.md and docs/ together: {words} words", fault, None)
 
 
 if __name__ == "__main__":

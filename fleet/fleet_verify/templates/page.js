@@ -44,7 +44,7 @@
     words.value = asked.get("search") ?? "";
     kind.value = asked.get("kind") ?? "";
     if (kind.selectedIndex < 0) kind.value = "";
-    if (asked.has("search") || asked.has("kind")) search();
+    if (rows !== null || asked.has("search") || asked.has("kind")) search();
   };
 
   let waiting = 0;
@@ -59,4 +59,28 @@
   addEventListener("hashchange", begin);
   form.hidden = false;
   begin();
+})();
+
+// Sorts a table by a column: a button in each head, which turns the order when it is pressed again. Numbers in names count as numbers.
+(() => {
+  const order = new Intl.Collator("en", { numeric: true });
+  const sort = (table, head) => {
+    const isDown = head.getAttribute("aria-sort") === "ascending";
+    for (const each of table.tHead.rows[0].cells) each.removeAttribute("aria-sort");
+    head.setAttribute("aria-sort", isDown ? "descending" : "ascending");
+    const body = table.tBodies[0];
+    const rows = Array.from(body.rows, (row) => [row.cells[head.cellIndex].textContent.trim(), row]);
+    rows.sort(([one], [other]) => (isDown ? order.compare(other, one) : order.compare(one, other)));
+    body.append(...rows.map(([, row]) => row));
+  };
+
+  for (const table of document.querySelectorAll("table[data-sorts]")) {
+    for (const head of table.tHead.rows[0].cells) {
+      const button = document.createElement("button");
+      button.type = "button";
+      button.append(...head.childNodes);
+      head.append(button);
+      button.addEventListener("click", () => sort(table, head));
+    }
+  }
 })();
