@@ -32,6 +32,7 @@ sys.path[:0] = [str(HERE.parent), str(HERE.parent / "cases"), str(HERE)]
 
 import harness  # noqa: E402
 from answers import answer_of, saved_by  # noqa: E402
+from said import ADVICE, NOT_WRITTEN, shown  # noqa: E402
 from reference.hints import next_steps  # noqa: E402
 from sweep import check_runs, command_runs, is_explained  # noqa: E402
 
@@ -93,7 +94,8 @@ class Devices:
 def is_told(found, wanted, name, run):
     """Whether an answer tells that this file failed, or is the refusal that is wanted in any case, or one that was explained."""
     command, words, kind = run.command, run.command.words, "read"
-    if found == wanted and wanted[0] > 1 or found[:2] == wanted[:2] and is_explained(command) and found[2] in second_looks(wanted, run):
+    is_looked_at = wanted[0] > 1 or is_explained(command)
+    if found == wanted and wanted[0] > 1 or found[:2] == wanted[:2] and is_looked_at and found[2] in second_looks(wanted, run):
         return True
     if command.saved and name == f"{command.saved}.0.new".encode():
         kind, name = "write", command.saved.encode()
@@ -102,14 +104,13 @@ def is_told(found, wanted, name, run):
         line = json.dumps({"fault": {"kind": kind, "message": line[:-1].decode()}}, separators=(",", ":"), ensure_ascii=False).encode() + b"\n"
     status, text, errors = found
     before = text.removesuffix(line)
-    if is_explained(command):
-        return status == FAILED and errors == b"cannot %s %s\n" % (kind.encode(), name) and text == line
-    return (status, errors) == (FAILED, b"") and text != before and (not before or is_read_before(before, wanted[1], words))
+    is_said = status == FAILED and errors == b"cannot %s %s\n" % (kind.encode(), name)
+    return is_said and text != before and (not before or not is_explained(command) and is_read_before(before, wanted[1], words))
 
 
 def second_looks(wanted, run):
-    """What standard error may have after a second look of which a call failed, if the answer is explained. A refusal keeps its sentence. Why a
-    file cannot be read is asked anew."""
+    """What standard error may have after a second look of which a call failed. A refusal keeps its first line, and then has what the table advises.
+    Why a file cannot be read is asked again."""
     status, _, errors = wanted
     if status == 1:
         steps = next_steps(run.command.words, run.folder, has_prefix=False)
@@ -117,7 +118,8 @@ def second_looks(wanted, run):
     if status == FAILED:
         about, _, _ = errors.rpartition(b": ")
         return {errors, *(b"%s: %s\n" % (about, os.strerror(error).encode()) for _, causes, _ in FAILING for error in causes if error)}
-    return {errors, b"".join(errors.splitlines(keepends=True)[:1])}
+    first = b"".join(errors.splitlines(keepends=True)[:1])
+    return {errors, first, *(first + shown(advice) + b"\n" for advice in ADVICE)}
 
 
 def is_read_before(text, wanted, words):
@@ -128,9 +130,9 @@ def is_read_before(text, wanted, words):
 
 
 def is_cut(found, wanted, _name, run):
-    """Whether an answer is a prefix of the one wanted, and no more. (Why an input is refused may be explained then, too.)"""
+    """Whether an answer is a prefix of the one wanted, and no more, and this is said."""
     status, text, errors = found
-    is_due = errors == b"" or is_explained(run.command) and errors == wanted[2]
+    is_due = errors == NOT_WRITTEN
     return status == FAILED and is_due and text != wanted[1] and wanted[1].startswith(text)
 
 

@@ -1,4 +1,4 @@
-"""What a person may do next (docs/cli.md, 'On a terminal'): after an answer that something differs, or a match with which nothing was compared,
+"""What a person may do next (docs/cli.md, 'On standard error'): after an answer that something differs, or a match with which nothing was compared,
 and of a refused input that is another."""
 
 import json
@@ -25,7 +25,7 @@ from .program import (
 from .known_files import unknown_entries
 from .log import read_log
 from .log_forms import log_of
-from .registers import SHA1
+from .registers import BY_NAME, SHA1
 from .texts import read_expected
 from .verdict import list_report, places, prefix_that_matches, rule_beside, strays_in
 
@@ -64,6 +64,10 @@ LOG_FOR_LIST = "it is a firmware event log, and no measurement list"
 TEXT_FOR_LIST = "it is the list as text: take binary_runtime_measurements, which is beside it; or ima-agent list makes LIST of it"
 LIST_FOR_TEXT = "it is the binary list, which the other commands take as it is"
 PRINTED_FOR_EXPECTED = "it is what tpm2-tools print: ima-agent expected makes EXPECTED of it"
+EXPECTED_FOR_PRINTED = "it is EXPECTED already, which ima-agent verify takes as it is"
+CAPITALS = "its banks are in capital letters: write sha256 and the like"
+PEM_FOR_AREA = "it is PEM text: give the public area, as tpm2_createak -u writes it"
+BANKS = tuple(f"{name} ".encode() for name in BY_NAME)
 PRINTED = (b"  sha", b"  sm3", b"pcrs:", b"sha1:", b"sha256:", b"sha384:", b"sha512:")
 
 
@@ -300,10 +304,13 @@ def is_old_log(head):
 
 
 def mistake_in(kind, data):
-    """What the bytes of an input are in place of a log, a list, what is converted to one, expected registers or what tpm2-tools printed; or None."""
+    """What the bytes of an input are in place of a log, a list, what is converted to one, expected registers, what tpm2-tools printed or the public
+    area of a key; or None."""
+    head = data[:HEAD]
+    if kind == "key":
+        return PEM_FOR_AREA if head.startswith(b"-----BEGIN ") else None
     if not data:
         return EMPTY if kind in ("log", "list", "form", "text") else NOTHING_PRINTED
-    head = data[:HEAD]
     if kind == "form":
         return LIST_FOR_LOG if head[28:31] == b"ima" else None
     if kind == "text":
@@ -313,4 +320,13 @@ def mistake_in(kind, data):
     if kind == "list":
         is_text = head[:3] == b"10 " and head[43:47] == b" ima"
         return LOG_FOR_LIST if head[32:48] == b"Spec ID Event03\0" else TEXT_FOR_LIST if is_text else None
-    return PRINTED_FOR_EXPECTED if kind == "expected" and head.startswith(PRINTED) else None
+    return mistake_in_values(kind, head)
+
+
+def mistake_in_values(kind, head):
+    """The same of expected registers, or of what tpm2-tools printed."""
+    if kind == "printed":
+        return EXPECTED_FOR_PRINTED if head.startswith(BANKS) else None
+    if head.startswith(PRINTED):
+        return PRINTED_FOR_EXPECTED
+    return CAPITALS if head.startswith(tuple(bank.upper() for bank in BANKS)) else None

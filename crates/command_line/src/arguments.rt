@@ -1,11 +1,11 @@
 //! Reads the command line.
 
-ghost use Rattle.std.specs.Prelude.{◌≡◌, [], None, Ok, codes, drop, string_bytes, IfOk};
+ghost use Rattle.std.specs.Prelude.{◌≡◌, ◌==◌, ◌||◌, [], None, Ok, codes, drop, find, option_map, string_bytes, IfOk};
 ghost use Rattle.clap.specs.Values.{kind_of};
 ghost use Rattle.clap.specs.Words.{Text as Words, found_of, rows_of, subcommand_rows_of};
 ghost use Rattle.std.specs.Vec.Iter.{into_iter_items};
 ghost use Rattle.agent_plans.specs.Plans.{IsWithinRanges, IsWithin, NamesKnown, TakesKnown};
-ghost use Rattle.command_line.specs.Arguments.{BeginsWithVersion, HasHelpWord, HasComparison, HasQuery, HasValues, HasValuesIn, IsRequestedBy, IsHelp, IsPlanOrHelp, IsShownAs, asks_help, asks_version};
+ghost use Rattle.command_line.specs.Arguments.{BeginsWithVersion, HasHelpWord, HasComparison, HasQuery, HasValues, HasValuesIn, IsRequestedBy, IsHelp, IsPlanOrHelp, IsShownAs, asks_first, asks_help, asks_quiet, asks_version, begins_with, ends_options, help_options, is_quiet_word};
 ghost use Rattle.std.specs.List.{list_any};
 ghost use Rattle.cells.specs.declared.writer.Form.TheVariants.{Text};
 ghost use Rattle.agent_plans.specs.declared.plan.Plan.TheVariants as plans;
@@ -473,13 +473,71 @@ fn has_help_word(arguments: &[String]) -> bool
     arguments.iter().any(asks_help)
 }
 
-// Whether this argument requests help: it is `--help`, or short options that begin with `-h` or `-0h`.
+// Short options that request help.
+const HELP_OPTIONS: [&[u8]; 5] = [b"-h", b"-0h", b"-qh", b"-0qh", b"-q0h"];
+
+// Whether this argument requests help: it is `--help`, or short options of which `h` is the first, or follows no others than `0` and `q`.
 fn asks_help(word: &String) -> bool
     ensures { result ≡ asks_help (string_bytes word.now) }
 {
-    word.as_str() == "--help"
-        || word.as_bytes().starts_with(b"-h")
-        || word.as_bytes().starts_with(b"-0h")
+    word.as_str() == "--help" || begins_any(&HELP_OPTIONS, word.as_bytes())
+}
+
+// Whether the argument begins with one of these.
+fn begins_any(options: &[&[u8]], word: &[u8]) -> bool
+    ensures { result ≡ list_any (λ option. begins_with option.now word.now) options.now }
+{
+    options.iter().any(|option| word.starts_with(option))
+}
+
+/// Whether the arguments ask for silence on standard error: one after the command is `-q` or `--quiet`, and none before it is `--`. It does not
+/// matter whether they are those of a command.
+pub fn asks_quiet(arguments: &[String]) -> bool
+    ensures { result ≡ asks_quiet arguments.now }
+{
+    1 <= arguments.len() && asks_first(&arguments[1..])
+}
+
+// Whether these arguments ask for it.
+fn asks_first(words: &[String]) -> bool
+    ensures { result ≡ asks_first words.now }
+{
+    match first_of_quiet(words) {
+        None => false,
+        Some(word) => is_quiet_word(word),
+    }
+}
+
+// The first of these arguments that asks for silence, or after which there are no options.
+fn first_of_quiet(words: &[String]) -> Option<&String>
+    ensures { option_map (λ word. word.now) result ≡ find (λ word. ends_options (string_bytes word) || is_quiet_word (string_bytes word)) words.now }
+{
+    words
+        .iter()
+        .find(|word| ends_options(word) || is_quiet_word(word))
+}
+
+// Whether no option follows this argument.
+fn ends_options(word: &String) -> bool
+    ensures { result ≡ ends_options (string_bytes word.now) }
+{
+    word.as_str() == "--"
+}
+
+// Whether this argument is `--quiet`, or short options of which one is `q`.
+fn is_quiet_word(word: &String) -> bool
+    ensures { result ≡ is_quiet_word (string_bytes word.now) }
+{
+    let bytes = word.as_bytes();
+    word.as_str() == "--quiet"
+        || bytes.starts_with(b"-") && !bytes.starts_with(b"--") && has_letter_q(bytes)
+}
+
+// Whether one of these letters is `q`.
+fn has_letter_q(letters: &[u8]) -> bool
+    ensures { result ≡ list_any (λ letter. letter == 113) letters.now }
+{
+    letters.iter().any(|letter| *letter == b'q')
 }
 
 // Whether this argument requests the version: it is `--version`, or short options that begin with `-V`.

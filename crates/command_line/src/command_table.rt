@@ -41,6 +41,8 @@ pub(crate) enum ArgumentForm<'a> {
     Repeated,
     /// As a flag.
     Flag,
+    /// As a flag that has this letter, too.
+    ShortFlag(char),
     /// As a flag, and only beside this argument.
     FlagBeside(&'a str),
     /// As a flag that has this letter, too, and only beside this option.
@@ -147,14 +149,17 @@ const HCRTM: ArgumentRow<'static> = row!("hcrtm"; ArgumentForm::Flag);
 /// Whether the result is printed as JSON.
 const JSON: ArgumentRow<'static> = row!("json"; ArgumentForm::Flag);
 
+/// Whether nothing is said on standard error.
+const QUIET: ArgumentRow<'static> = row!("quiet"; ArgumentForm::ShortFlag('q'));
+
 // The commands, in the order of the help. `table` of specs/Arguments.antt has the same.
 static COMMANDS: [CommandRow; 13] = [
     CommandRow {
         name: "verify",
         about: with_abouts!(; verify),
         arguments: &[
-            REQUIRE, OLD_KERNEL, KNOWN, PREFIX, SAVE, RESUME, HCRTM, EXPLAIN, JSON, LOG, LIST,
-            EXPECTED,
+            REQUIRE, OLD_KERNEL, KNOWN, PREFIX, SAVE, RESUME, HCRTM, EXPLAIN, JSON, QUIET, LOG,
+            LIST, EXPECTED,
         ],
     },
     CommandRow {
@@ -175,6 +180,7 @@ static COMMANDS: [CommandRow; 13] = [
             HCRTM,
             EXPLAIN,
             JSON,
+            QUIET,
             LOG,
             LIST,
             row!("QUOTE"; ArgumentForm::Required),
@@ -189,6 +195,7 @@ static COMMANDS: [CommandRow; 13] = [
             KNOWN,
             row!("explain"; ArgumentForm::FlagBeside("EXPECTED")),
             JSON,
+            QUIET,
             LIST,
             EXPECTED_IF_GIVEN,
         ],
@@ -196,7 +203,7 @@ static COMMANDS: [CommandRow; 13] = [
     CommandRow {
         name: "locate",
         about: with_abouts!(; locate),
-        arguments: &[REQUIRE, HCRTM, EXPLAIN, JSON, LOG, LIST, EXPECTED],
+        arguments: &[REQUIRE, HCRTM, EXPLAIN, JSON, QUIET, LOG, LIST, EXPECTED],
     },
     CommandRow {
         name: "boot",
@@ -215,6 +222,7 @@ static COMMANDS: [CommandRow; 13] = [
             row!("before"; ArgumentForm::Optional("OLD_LOG")),
             HCRTM,
             JSON,
+            QUIET,
             LOG,
         ],
     },
@@ -236,18 +244,19 @@ static COMMANDS: [CommandRow; 13] = [
             SIGNATURE_CHECKED,
             HCRTM,
             JSON,
+            QUIET,
             LOG,
         ],
     },
     CommandRow {
         name: "show",
         about: with_abouts!(; show),
-        arguments: &[JSON, LIST],
+        arguments: &[JSON, QUIET, LIST],
     },
     CommandRow {
         name: "registers",
         about: with_abouts!(; registers),
-        arguments: &[HCRTM, JSON, LOG],
+        arguments: &[HCRTM, JSON, QUIET, LOG],
     },
     CommandRow {
         name: "expected",
@@ -255,6 +264,7 @@ static COMMANDS: [CommandRow; 13] = [
         arguments: &[
             row!("registers"; ArgumentForm::Optional("SELECTION")),
             JSON,
+            QUIET,
             row!("PCRREAD"; ArgumentForm::Required),
         ],
     },
@@ -265,18 +275,19 @@ static COMMANDS: [CommandRow; 13] = [
             row!("endorsement"; ArgumentForm::Flag),
             row!("print"; ArgumentForm::Defaulted("PART", "all", Values::Parsed(ValueParser::Names(&["all", "name", "pem"])))),
             JSON,
+            QUIET,
             FILE,
         ],
     },
     CommandRow {
         name: "list",
         about: with_abouts!(; list),
-        arguments: &[FILE],
+        arguments: &[QUIET, FILE],
     },
     CommandRow {
         name: "log",
         about: with_abouts!(; log),
-        arguments: &[FILE],
+        arguments: &[QUIET, FILE],
     },
     CommandRow {
         name: "measure",
@@ -291,6 +302,7 @@ static COMMANDS: [CommandRow; 13] = [
             row!("null"; ArgumentForm::ShortFlagBeside('0', "files-from")),
             HCRTM,
             JSON,
+            QUIET,
             LOG,
             row!("FILE"; ArgumentForm::Repeated),
         ],
@@ -376,6 +388,9 @@ fn argument<'a>(
         ArgumentForm::Omittable => Ok(arg),
         ArgumentForm::Repeated => Ok(arg.action(ArgAction::Append).num_args(0..)),
         ArgumentForm::Flag => Ok(arg.long(row.id).action(ArgAction::SetTrue)),
+        ArgumentForm::ShortFlag(letter) => Ok(
+            arg.short(letter).long(row.id).action(ArgAction::SetTrue),
+        ),
         ArgumentForm::FlagBeside(argument) => arg
             .long(row.id)
             .action(ArgAction::SetTrue)

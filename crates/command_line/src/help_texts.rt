@@ -93,7 +93,7 @@ A log is a copy of /sys/kernel/security/tpm0/binary_bios_measurements, a list of
 Without a command: prints the PCRs of a log in hexadecimal, on standard input.
 
 Exit status:
-  0  all is printed; a verdict is `match`
+  0  success; if there is a verdict, it is `match`
   1  the verdict is `differ`, or a value is not located
   2  the arguments or an input are refused
   3  an input cannot be read, an output cannot be written, or memory ran out
@@ -208,8 +208,9 @@ macro_rules! selection_help {
         concat!(
             $which,
             "\
-Parts, with a comma or plus between: [BANK:]A,
-[BANK:]A-B, [BANK:]all; without BANK, of the bank before"
+Items, separated by , or +: [BANK:]PCR,
+[BANK:]FIRST-LAST or [BANK:]all. An item without BANK
+uses the previous item's"
             $(, $more)?
         )
     };
@@ -226,6 +227,7 @@ pub(crate) fn help_of<'a>(command: &str, id: &str) -> &'a str {
         "hcrtm" => "An H-CRTM event of LOG tells that PCR 0 began at 4",
         "explain" => help_of_explain(command),
         "json" => help_of_json(command),
+        "quiet" => "Say nothing on standard error",
         "nonce" => "The quote's nonce, in hexadecimal, 16 bytes or more",
         "sha1" => "Accept PCRs in the SHA-1 bank alone: SHA-1 has collisions",
         "old-kernel" => help_of_old_kernel(command),
@@ -275,9 +277,7 @@ fn help_of_expected<'a>(command: &str) -> &'a str {
 // The help of --require.
 fn help_of_require<'a>(command: &str) -> &'a str {
     match command {
-        "attest" | "events" | "boot" => "\
-PCRs that must be quoted, 0 to 10 at least: sha256:0-10.
-Parts, by comma or plus: [BANK:]A, [BANK:]A-B, [BANK:]all",
+        "attest" | "events" | "boot" => "PCRs that must be quoted, 0 to 10 at least: sha256:0-10",
         "replay" => selection_help!(
             "\
 PCRs that EXPECTED must have, 10 among them, such as
@@ -296,10 +296,10 @@ sha256:0-10 or sha256:0-7,10+sha1:10.
 // The help of --known.
 fn help_of_known<'a>(command: &str) -> &'a str {
     match command {
-        "attest" => "Each new entry must be in FILE, of sha256sum; several times",
+        "attest" => "New entries must match a FILE of sha256sum; several times",
         _ => "\
-Each new entry must be of a file whose digest FILE has,
-as sha256sum prints it. May be given several times; only
+Every new entry must match a digest listed in FILE, as
+sha256sum prints it. May be given several times; only
 with --require",
     }
 }
@@ -311,9 +311,9 @@ fn help_of_explain<'a>(command: &str) -> &'a str {
 Print what each event's data says, and which part of it
 was measured; not with --data or --json",
         "replay" => "\
-Say what to do next on standard error, terminal or not.
+After a difference, say what to do next, terminal or not.
 Only with EXPECTED",
-        _ => "Say what to do next on standard error, terminal or not",
+        _ => "After a difference, say what to do next, terminal or not",
     }
 }
 
@@ -387,7 +387,7 @@ fn help_of_other<'a>(id: &str) -> &'a str {
             "\
 Only these PCRs, such as 0-10 or sha256:0-7,10+sha1:10.
 ",
-            ",\nat first of every bank"
+            ",\nor every bank's at the start"
         ),
         "PCRREAD" => "\
 What tpm2_pcrread or tpm2_checkquote printed, which does

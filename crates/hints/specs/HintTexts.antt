@@ -166,3 +166,6 @@ mistake_words mistakes.LogForList = codes "it is a firmware event log, and no me
 mistake_words mistakes.TextForList = codes "it is the list as text: take binary_runtime_measurements, which is beside it; or ima-agent list makes LIST of it"
 mistake_words mistakes.ListForText = codes "it is the binary list, which the other commands take as it is"
 mistake_words mistakes.PrintedForExpected = codes "it is what tpm2-tools print: ima-agent expected makes EXPECTED of it"
+mistake_words mistakes.ExpectedForPrinted = codes "it is EXPECTED already, which ima-agent verify takes as it is"
+mistake_words mistakes.Capitals = codes "its banks are in capital letters: write sha256 and the like"
+mistake_words mistakes.PemForArea = codes "it is PEM text: give the public area, as tpm2_createak -u writes it"

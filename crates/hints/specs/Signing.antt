@@ -1,11 +1,9 @@
 -- What a person is told to do where nobody looked at a quote's signature, or key or signature are refused.
-use Rattle.std.specs.Prelude.{ℕ, nat_lt, ◌++◌, ◌∷◌, Bool, if◌then◌else◌, List, [], codes, Option, None, Some}
-use Rattle.agent_plans.specs.declared.plan.Quoting.{Quoting}
+use Rattle.std.specs.Prelude.{ℕ, nat_lt, Bool, if◌then◌else◌, List, codes}
 use Rattle.signed_messages.specs.declared.refusal.SignatureRefusal.{SignatureRefusal}
 use Rattle.signed_messages.specs.declared.refusal.SignatureRefusal.TheVariants.{Bytes, OtherScheme, OtherHash, NotSigned, OtherKey, OtherPem}
 use Rattle.tpm_keys.specs.Faults.{key_fault_number}
 use Rattle.tpm_keys.specs.declared.fault.KeyFault.{KeyFault}
-use Rattle.hints.specs.Escaping.{escape}
 
 abbrev pub unsigned_words : List ℕ
 unsigned_words = codes "nobody looked at the signature of QUOTE: give --key and --signature to have it verified"
@@ -28,8 +26,3 @@ no_area_words = codes "KEY is not a public area of a kind that is taken: give NA
 
 abbrev pub key_words : KeyFault → List ℕ
 key_words fault = if is_no_area fault then no_area_words else codes "KEY is not a key that attests: give NAME.pub of ima-enroll"
-
--- What is said of a key that is refused: only if it is that of a quote.
-abbrev pub key_line : KeyFault → Option Quoting → List ℕ
-key_line fault None = []
-key_line fault (Some quoting) = escape (key_words fault) ++ 10 ∷ []

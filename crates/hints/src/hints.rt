@@ -509,5 +509,10 @@ fn mistake_words(mistake: Mistake) -> &'static str
         Mistake::ListForText => "it is the binary list, which the other commands take as it is",
         Mistake::PrintedForExpected =>
             "it is what tpm2-tools print: ima-agent expected makes EXPECTED of it",
+        Mistake::ExpectedForPrinted =>
+            "it is EXPECTED already, which ima-agent verify takes as it is",
+        Mistake::Capitals => "its banks are in capital letters: write sha256 and the like",
+        Mistake::PemForArea =>
+            "it is PEM text: give the public area, as tpm2_createak -u writes it",
     }
 }

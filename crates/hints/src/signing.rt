@@ -1,12 +1,11 @@
 //! What to do where nobody looked at a quote's signature, or key or signature are refused.
 
-ghost use Rattle.std.specs.Prelude.{◌≡◌, ◌++◌, ◌∷◌, [], true, option_map, string_bytes, IfOk};
+ghost use Rattle.std.specs.Prelude.{◌≡◌, ◌++◌, ◌∷◌, [], true, string_bytes, IfOk};
 ghost use Rattle.std.specs.List.{list_all};
 ghost use Rattle.hints.specs.Escaping.{escape, is_shown};
-ghost use Rattle.hints.specs.Signing.{is_no_area, key_line, key_words, refusal_words, unsigned_words};
+ghost use Rattle.hints.specs.Signing.{is_no_area, key_words, refusal_words, unsigned_words};
 
 use crate::escapes::shown_line;
-use agent_plans::Quoting;
 use signed_messages::SignatureRefusal;
 use std::alloc::{AllocError, Global};
 use tpm_keys::KeyFault;
@@ -55,19 +54,12 @@ fn refusal_words(refusal: SignatureRefusal) -> &'static str
     }
 }
 
-/// What to do about a key that is refused, if it is that of a quote: else no text.
-pub(crate) fn key_hint(
-    alloc: Global,
-    fault: KeyFault,
-    quoting: Option<&Quoting>,
-) -> Result<String, AllocError>
-    ensures line { IfOk result (λ text. string_bytes text ≡ key_line fault (option_map (λ quoting. quoting.now) quoting.entry)) }
+/// What to do about a quote's key that is refused.
+pub(crate) fn key_hint(alloc: Global, fault: KeyFault) -> Result<String, AllocError>
+    ensures line { IfOk result (λ text. string_bytes text ≡ escape (key_words fault) ++ 10 ∷ []) }
     ensures shown { IfOk result (λ text. list_all is_shown (string_bytes text) ≡ true) }
 {
-    match quoting {
-        None => Ok(String::new(alloc)),
-        Some(_) => shown_line(alloc, key_words(fault)),
-    }
+    shown_line(alloc, key_words(fault))
 }
 
 // The words of that.

@@ -23,8 +23,8 @@ use byte_streams::{Failed, Sink, send};
 use judging::{known_inputs, request_of, save_of};
 use measuring::measure;
 use rendering::{
-    Output, Summary, json_fault_line, json_memory_line, output_for, print_measured, status_of,
-    write_fault,
+    Outcome, Output, Summary, json_fault_line, json_memory_line, output_for, print_measured,
+    status_of, write_fault,
 };
 use run_progress::{Failure, NoProgress, Progress};
 use std::alloc::{AllocError, Global};
@@ -282,14 +282,15 @@ fn send_answer<F: AgentFiles, S: Sink, P: Progress>(
     ensures { Streams form (IsOutcome (F.inputs files.old) (tasks.Answer question.now) form (F.replaced files.old) (F.replaced files.new)) (S.state sink.old) (S.state sink.new) result }
 {
     match answer_for(alloc, question, form, files) {
-        Ok((output, summary)) => send_told(alloc, output, &summary, sink, progress),
+        Ok((output, summary)) => send_told(alloc, question, output, &summary, sink, progress),
         Err(fault) => send_output(Err(fault), sink),
     }
 }
 
-// Sends an output, and tells if it is a match with which nothing was compared.
+// Sends the output of the answer to a question, and tells if no register was compared for a verdict.
 fn send_told<S: Sink, P: Progress>(
     alloc: Global,
+    question: &Query,
     output: Output,
     summary: &Summary,
     sink: &mut S,
@@ -298,10 +299,19 @@ fn send_told<S: Sink, P: Progress>(
     ensures { SendsOutput (Ok output) (S.state sink.old) (S.state sink.new) result }
 {
     let sent = send_output(Ok(output), sink);
-    if sent.is_ok() && summary.compares_nothing() {
-        progress.explain(alloc, Failure::NothingCompared);
+    if sent.is_ok() {
+        tell_compared(alloc, question, summary, progress);
     }
     sent
+}
+
+// Tells if no register was compared for a verdict.
+fn tell_compared<P: Progress>(alloc: Global, question: &Query, summary: &Summary, progress: &P) {
+    if summary.compares_nothing() {
+        progress.explain(alloc, Failure::NothingCompared);
+    } else if summary.verdict == Outcome::Differ && summary.compared == 0 {
+        progress.explain(alloc, Failure::NothingToCompare { question });
+    }
 }
 
 // The output of the answer to a question, and its summary.
