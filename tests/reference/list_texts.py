@@ -38,7 +38,7 @@ def entry_at(text, start, number):
     first = None
     for end in ends(text, start):
         found = entry_of_line(text[start:end])
-        if isinstance(found, Entry):
+        if isinstance(found, Entry) and not (first and found.is_violation):
             return found, end
         first = first or found
     raise (first or TextListFault.TOO_LONG).at(number)
