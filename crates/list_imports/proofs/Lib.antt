@@ -1,1 +1,4 @@
 pub mod ListTextLaws
+pub mod PlainLaws
+pub mod PlainPayloadLaws
+pub mod PlainTextLaws

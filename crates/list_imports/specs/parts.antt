@@ -1,1 +1,2 @@
+pub mod PlainLines
 pub mod ReadLines

@@ -1,6 +1,7 @@
 //! The payload that a line seems to say, field by field. Nothing is promised of it.
 
 use crate::fault::Lack;
+use crate::plain_entry::{append_sized, decoded};
 use crate::words::{decimal_number, next_word, split_first, split_last, split_words};
 use std::alloc::Global;
 
@@ -48,14 +49,6 @@ pub(crate) fn other_fields(name: &[u8]) -> Option<&'static [FieldForm]> {
     }
 }
 
-/// The payload of the template `ima` that is printed so: digest and path.
-pub(crate) fn ima_payload(alloc: Global, fields: &[u8]) -> Result<Vec<u8>, Lack> {
-    let (digits, path) = split_first(fields, b' ').ok_or(Lack::Form)?;
-    let mut payload = decoded(alloc, digits)?;
-    append_sized(path, &mut payload)?;
-    Ok(payload)
-}
-
 /// The payload that is printed so: digest, path and fields of these forms. The path is all between the first space and the last others.
 pub(crate) fn payload_of(
     alloc: Global,
@@ -84,14 +77,7 @@ fn append_field(
     payload: &mut Vec<u8>,
 ) -> Result<(), Lack> {
     let content = content_of(alloc, form, text)?;
-    append_sized(&content, payload)
-}
-
-/// Appends bytes after their length, a number of four bytes.
-pub(crate) fn append_sized(bytes: &[u8], out: &mut Vec<u8>) -> Result<(), Lack> {
-    let size = u32::try_from(bytes.len()).map_err(|_| Lack::Form)?;
-    out.extend_from_slice(&size.to_le_bytes())?;
-    out.extend_from_slice(bytes)?;
+    append_sized(&content, payload)?;
     Ok(())
 }
 
@@ -140,13 +126,4 @@ fn number_content(alloc: Global, text: &[u8], size: usize) -> Result<Vec<u8>, La
     let (bytes, _) = number.split_at_checked(size).ok_or(Lack::Form)?;
     content.extend_from_slice(bytes)?;
     Ok(content)
-}
-
-// The bytes of these hexadecimal digits.
-fn decoded(alloc: Global, digits: &[u8]) -> Result<Vec<u8>, Lack> {
-    match hex::decode(alloc, digits) {
-        Ok(bytes) => Ok(bytes),
-        Err(hex::FromHexError::OutOfMemory) => Err(Lack::Memory),
-        Err(_) => Err(Lack::Form),
-    }
 }

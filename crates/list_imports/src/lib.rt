@@ -9,6 +9,7 @@ mod fault;
 mod guess;
 mod guessed_fields;
 mod list_text;
+mod plain_entry;
 mod words;
 
 pub use fault::ListImportFault;

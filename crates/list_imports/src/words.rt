@@ -46,12 +46,6 @@ pub(crate) fn decimal_number(digits: &[u8]) -> Option<u32> {
     Some(number)
 }
 
-/// The number of two characters: two digits, or a space and a digit.
-pub(crate) fn two_wide(tens: u8, ones: u8) -> Option<u32> {
-    let tens = if tens == b' ' { 0 } else { digit(tens)? };
-    Some(10 * tens + digit(ones)?)
-}
-
 // The value of a decimal digit.
 fn digit(byte: u8) -> Option<u32>
     ensures { IfSome result (λ value. value < 10) }
