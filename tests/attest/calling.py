@@ -4,11 +4,14 @@ import os
 import re
 import shutil
 import subprocess
+import sys
 import tempfile
 from contextlib import contextmanager, suppress
 from dataclasses import dataclass, replace
 from pathlib import Path
 
+sys.path.append(str(Path(__file__).resolve().parents[1] / "cases"))
+import form
 import harness
 from emulated import BOOT, ROOT, TOOLS
 from reference.log import Event, read_log
@@ -204,11 +207,12 @@ class AttestTests(harness.TestCase):
         self.check(title, (ended.status, ended.output, words in ended.errors or ended.errors), (status, "", True))
 
     def check_line(self, title, ended, status, *lines):
-        """There is no report, but one of these lines of the program. What it says of that on standard error is said once, and by nothing else."""
+        """There is no report, but one of these lines of the program. What it says of that on standard error is in words, said once, and by nothing
+        else."""
         said = ended.errors.splitlines()
         foreign = [line for line in said if FOREIGN.match(line) or said.count(line) > 1]
-        found = (ended.status, ended.output.removesuffix("\n") in lines or ended.output, foreign)
-        self.check(title, found, (status, True, []))
+        found = (ended.status, ended.output.removesuffix("\n") in lines or ended.output, foreign, is_in_words(ended) or ended.errors)
+        self.check(title, found, (status, True, [], True))
 
     def check_fault(self, title, ended, number):
         """The program refuses the quote, whose message is signed: there is no report, but the number of its fault."""
@@ -254,6 +258,16 @@ class OwnKeyTests(AttestTests):
             ended = subprocess.run(["openssl", "dgst", "-sha256", "-sign", self.secret], input=message, check=True, capture_output=True)
             self.signatures[message] = ended.stdout
         return replace(evidence, key=self.own, signature=self.put("own.sig", self.signatures[message]))
+
+
+def is_in_words(ended):
+    """Whether standard error says in words what the line of an error is: in those of docs/errors.txt, if it has a number."""
+    numbered = re.fullmatch(r"refused: (quote|signature|key) fault (\d+)\n", ended.output)
+    if numbered:
+        row = form.rows_of(numbered[1].capitalize())[int(numbered[2])]
+        return f": {row.as_sentence().wrong}\n" in ended.errors and ended.errors.count("\n") == 2
+    said = {"failed: read ": "cannot read ", "refused: command line\n": "error: "}
+    return any(ended.output.startswith(line) and ended.errors.startswith(words) for line, words in said.items())
 
 
 def turned(data):

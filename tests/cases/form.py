@@ -4,7 +4,7 @@ import re
 import shlex
 from dataclasses import dataclass
 from pathlib import Path
-from typing import Optional
+from typing import NamedTuple, Optional
 
 ROOT = Path(__file__).resolve().parents[2]
 FOLDER = ROOT / "tests/cases"
@@ -145,6 +145,32 @@ def sentences_of(name):
     """The sentences of the table of faults of docs/errors.txt that begins with this word, by the faults' numbers."""
     tables = {text.split()[0]: text for text in FAULTS.findall((ROOT / "docs/errors.txt").read_text())}
     return {int(number): sentence for number, sentence in re.findall(r"^ +(\d+)  (.*)$", tables[name], re.MULTILINE)}
+
+
+class Row(NamedTuple):
+    """A row of a table of faults: what is wrong, and what to do."""
+
+    wrong: str
+    advice: str
+
+    def at(self, kind, place):
+        """The row of a fault at this place, if it names one."""
+        return self._replace(wrong=f"{kind} {place}: {self.wrong}") if place else self
+
+    def as_sentence(self):
+        """The row of a fault that names no place: its words begin with a capital letter."""
+        return self._replace(wrong=self.wrong[0].upper() + self.wrong[1:])
+
+
+def rows_of(name):
+    """The rows of the table of faults of docs/errors.txt that begins with this word, by the faults' numbers. Where rows have the same advice, it is
+    below the last of them."""
+    tables = {text.split()[0]: text for text in FAULTS.findall((ROOT / "docs/errors.txt").read_text())}
+    found, below = {}, ""
+    for number, wrong, advice in reversed(re.findall(r"^ +(\d+)  (.*)\n((?: {5}.*\n)*)", tables[name], re.MULTILINE)):
+        below = " ".join(advice.split()) or below
+        found[int(number)] = Row(wrong, below)
+    return found
 
 
 def displayed_of(name):

@@ -67,7 +67,8 @@ class Saving(harness.TestCase):
         return self.started("verify", "--save", file, "log", listed, "expected")
 
     def started(self, *words):
-        return subprocess.Popen([self.program, *words], cwd=self.room, env={}, stdin=subprocess.DEVNULL, stdout=subprocess.PIPE,
+        command, *words = words
+        return subprocess.Popen([self.program, command, "-q", *words], cwd=self.room, env={}, stdin=subprocess.DEVNULL, stdout=subprocess.PIPE,
                                 stderr=subprocess.STDOUT, umask=0)
 
     def left(self):

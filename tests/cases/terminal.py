@@ -4,14 +4,14 @@
 tests/cases/terminal.py [PROGRAM]: by default the program that was built in this tree.
 
 Each command of the cases whose files have at most 4 MiB runs with a terminal as its standard error. Status and output must be what the
-case wants. After a fault the terminal must get its sentence, which is made here of the fault's line, by the tables of docs/errors.txt and by
-tests/faults/words.txt, and where the input is not what it should be the line of tests/reference/hints.py that says so. After a verdict `differ`,
-or values that are not located, it must get the lines of that reference, and none if an input is no regular file. After a success it must get
-nothing, but after a match with which nothing was compared the line that says so; and after a refused command line some text of clap's: `USAGES`
-has some. Where the output goes to the same terminal, the sentence must come after the line. Further commands have names with bytes that a
-terminal acts upon, are out of memory, have an output that fails or a standard stream that is closed, or measure for more than a second. Each of
-these runs without a terminal too, and standard error must then get nothing. Pipes that are closed one after another show when which number is
-due, and none if the clock fails. The script counts commands."""
+case wants. After a fault standard error must get what said.py makes of the fault's line, by the tables of docs/errors.txt, and where the input is not
+what it should be the line of tests/reference/hints.py that says so. After a verdict `differ`, or values that are not located, a terminal must get the
+lines of that reference, and none if an input is no regular file. After a success it must get nothing, but after a match with which nothing was
+compared the line that says so; and after a refused command line some text of clap's: `USAGES` has some. Where the output goes to the same terminal,
+the sentence must come after the line. Further commands have names with bytes that a terminal acts upon, are out of memory, have an output that fails
+or a standard stream that is closed, or measure for more than a second. Each of these runs without a terminal too, and standard error must then get
+the same of a fault, and nothing else; with `--quiet` nothing. Pipes that are closed one after another show when which number is due, and none if the
+clock fails. The script counts commands."""
 
 import json
 import os
@@ -33,14 +33,14 @@ sys.path.insert(0, str(Path(__file__).resolve().parents[1]))
 import form  # noqa: E402
 import harness  # noqa: E402
 from answers import Answer, fault_of  # noqa: E402
-from reference.attestations import NotAttested, require_asked_for  # noqa: E402
-from reference.command_line import read_words  # noqa: E402
 from reference.faults import Fault  # noqa: E402
 from reference.hints import (  # noqa: E402
     AGGREGATES,
     APART,
     BY_HCRTM,
+    CAPITALS,
     EMPTY,
+    EXPECTED_FOR_PRINTED,
     LIST_FOR_LOG,
     LIST_FOR_TEXT,
     LOG_FOR_LIST,
@@ -53,30 +53,45 @@ from reference.hints import (  # noqa: E402
     OLD_REGISTERS,
     ONLY_SHA1,
     OTHER_BOOT,
+    PEM_FOR_AREA,
     PRINTED_FOR_EXPECTED,
     SEEN_BY,
     TEXT_FOR_LIST,
     UNCONFIRMED,
     are_regular,
-    is_regular,
-    mistake_in,
     next_steps,
     said_anyway,
     said_of_match,
     said_of_padding,
 )
-from reference.known_files import read_known  # noqa: E402
 from reference.log import Event, Log, read_log  # noqa: E402
 from reference.log_forms import EV_EFI_HCRTM_EVENT, told_log  # noqa: E402
 from reference.measurement_list import BOOT_AGGREGATE, IMA_NG, entry_of, read_prefix, replay  # noqa: E402
-from reference.quotes import read_quote  # noqa: E402
 from reference.registers import SHA1, SHA256  # noqa: E402
-from reference.texts import read_requirement  # noqa: E402
+from said import (  # noqa: E402
+    EXPECTED,
+    FORM,
+    KEY,
+    KNOWN,
+    LIST,
+    LOG,
+    NOT_WRITTEN,
+    NO_AREA,
+    OUT_OF_MEMORY,
+    SIGNATURE,
+    SIGNATURE_HINTS,
+    TEXT,
+    TOO_LONG,
+    UNSIGNED,
+    fault_line_of,
+    is_of_usage,
+    said_of_error,
+)
 
 PROGRAM = harness.argument()
 SAMPLES = Path(__file__).resolve().parents[2] / "samples"
 NONCE_GIVEN = (SAMPLES / "quoted" / "nonce").read_text().strip()
-WAITING = b"reading a firmware event log in hexadecimal from standard input; ima-agent --help tells the commands\n"
+WAITING = b"reading a firmware event log in hexadecimal from standard input; ima-agent --help lists the commands\n"
 SECONDS = 180  # (beside the other parts of the gate)
 MEBIBYTE = 1 << 20
 MOST_BYTES = 4 * MEBIBYTE
@@ -107,52 +122,20 @@ int clock_gettime(clockid_t clock, struct timespec *now) {
 }
 """
 
-# Which inputs the names of a command are; what follows them are files to measure.
-INPUTS = {
-    "measure": ["log"],
-    "verify": ["log", "list", "expected"],
-    "attest": ["log", "list", "quote", "expected"],
-    "locate": ["log", "list", "expected"],
-    "expected": ["expected"],
-    "key": ["key"],
-    "registers": ["log"],
-    "list": ["text"],
-    "log": ["form"],
-    "events": ["log"],
-    "boot": ["log"],
-    "show": ["list"],
-    "replay": ["list", "expected"],
-}
-
-# The commands that take `-` as standard input, and for which inputs.
-TAKE_STANDARD_INPUT = {"list": ["text"], "log": ["form"], "expected": ["expected"], "key": ["key"], **dict.fromkeys(("events", "boot"), ["log", "expected"])}
-
-# The sentences by which the program displays faults, by number; those of expected registers from 4 on name no line.
-LOG, FORM, LIST, TEXT, REPLAY, EXPECTED, KNOWN, QUOTE, SIGNATURE, KEY, CHECKPOINT, BOOK = map(
-    form.displayed_of, ("Log", "Form", "List", "Text", "Replay", "Expected", "Known", "Quote", "Signature", "Key", "Checkpoint", "Book"))
-
-# The numbers of the signature faults that are of the key, and what to do about each; about a key that is no public area, which the first ten of its
-# faults are of; and where nobody looked at a signature.
-OF_KEYS = (8, 9)
-NO_SIGNATURE = "SIG must be what tpm2_quote -s wrote with QUOTE, plain or not, and KEY of its kind and size"
-OTHER_SIGNATURE = "SIG is not by a scheme and hash that KEY takes: it is by another key, or was changed"
-SIGNATURE_HINTS = {
-    **dict.fromkeys((1, 2, 3, 4), NO_SIGNATURE),
-    **dict.fromkeys((5, 6), OTHER_SIGNATURE),
-    7: "SIG is by another key or of another quote, or one of QUOTE, SIG and KEY was changed",
-    8: "signatures by such keys are not verified here: verify SIG yourself, then call ima-agent with --signature-checked in place of both",
-    9: "give the key's public area: NAME.pub of ima-enroll",
-}
-LAST_OF_AREAS = 10
-NO_AREA = "KEY is not a public area of a kind that is taken: give NAME.pub of ima-enroll, or PEM as ima-agent key --print pem prints it"
-NO_ATTESTATION_KEY = "KEY is not a key that attests: give NAME.pub of ima-enroll"
-UNSIGNED = "nobody looked at the signature of QUOTE: give --key and --signature to have it verified"
-
 # What clap says of wrong arguments, or the program in its form where clap takes them.
 MORE = "\nFor more information, try '--help'.\n"
 REQUIRE, REGISTERS, NONCE = "--require <SELECTION>", "--registers <SELECTION>", "--nonce <HEX>"
-MALFORMED = "not of the form BANK:A,B-C[+BANK:D..]"
-UNBOUND = "register 10 is named of no bank, so nothing of the list would be required"
+GRAMMAR = "items, separated by , or +: [BANK:]PCR, [BANK:]FIRST-LAST or [BANK:]all. An item without BANK uses the previous item's"
+UNBOUND = "PCR 10 is not selected in any bank, so the list would not be checked: add it, as in sha256:0-10"
+SHORT_NONCE = "a nonce has at least 16 bytes, which is 32 hexadecimal digits"
+UNQUOTED = "PCR {} is not selected in any bank: a quote needs PCRs 0 to 10, as in sha256:0-10"
+WEAK = "PCR {} is selected only in the SHA-1 bank, which can be forged: require another bank, or add --sha1"
+
+
+def malformed(place, part):
+    return f"'{part}' at byte {place} is wrong. Write {GRAMMAR}. PCRs are 0 to 23"
+
+
 USAGES = [
     (["nothing"], f"error: unrecognized subcommand 'nothing'\n\nUsage: ima-agent [COMMAND]\n{MORE}"),
     (["show"], f"error: the following required arguments were not provided:\n  <LIST>\n\nUsage: ima-agent show <LIST>\n{MORE}"),
@@ -160,7 +143,7 @@ USAGES = [
     (["measure", "--workers", "9", "L"], f"error: invalid value '9' for '--workers <THREADS>': 9 is not in 1..=8\n{MORE}"),
     (["measure", "--alg", "sm3", "L"],
      f"error: invalid value 'sm3' for '--alg <HASH>'\n  [possible values: sha1, sha256, sha384, sha512]\n{MORE}"),
-    (["measure", "--json", "--print", "binary", "L"], "error: invalid value 'binary' for '--print <OUTPUT>' with '--json'\n"),
+    (["measure", "--json", "--print", "binary", "L"], "error: the argument '--print binary' cannot be used with '--json'\n"),
     *((["events", "--explain", other, "L"], f"error: the argument '--explain' cannot be used with '{other}'\n") for other in ("--data", "--json")),
     *((["events", *more, "--expected", "E", "L"],
        "error: the argument '--expected <EXPECTED>' cannot be used without '--explain' or '--json'\n") for more in ([], ["--data"])),
@@ -169,12 +152,12 @@ USAGES = [
     (["key", "--print", "ascii", "L"],
      f"error: invalid value 'ascii' for '--print <PART>'\n  [possible values: all, name, pem]\n{MORE}"),
     *(([command, "--json", "L"], "error: unexpected argument '--json' found\n\n  tip: to pass '--json' as a value, use '-- --json'\n\n"
-       f"Usage: ima-agent {command} <FILE>\n{MORE}") for command in ("list", "log")),
-    *(([command, *more, "--expected", "-", "-"], "error: the argument '--expected <EXPECTED>' cannot be '-' if '<LOG>' is\n")
+       f"Usage: ima-agent {command} [OPTIONS] <FILE>\n{MORE}") for command in ("list", "log")),
+    *(([command, *more, "--expected", "-", "-"], "error: '<LOG>' and '--expected <EXPECTED>' cannot both be '-'\n")
       for command, more in (("boot", []), ("events", ["--explain"]), ("events", ["--json"]))),
-    (["boot", "--before", "-", "L"], "error: invalid value '-' for '--before <OLD_LOG>': it is no file\n"),
+    (["boot", "--before", "-", "L"], "error: invalid value '-' for '--before <OLD_LOG>': it must be a file\n"),
     (["\x1b[31m\nred"], f"error: unrecognized subcommand '\\x1b[31m\\x0ared'\n\nUsage: ima-agent [COMMAND]\n{MORE}"),
-    *(([*words, "--require", text, *names], f"error: invalid value '{text}' for '{REQUIRE}': at byte {place}, '{part}': {MALFORMED}\n")
+    *(([*words, "--require", text, *names], f"error: invalid value '{text}' for '{REQUIRE}': {malformed(place, part)}\n")
       for words, names, text, place, part in (
           (["verify"], ["L", "M", "N"], "sha256", 1, "sha256"),
           (["verify"], ["L", "M", "N"], "sha256:0-7,99", 12, "99"),
@@ -185,17 +168,20 @@ USAGES = [
           (["replay"], ["L", "M"], "sha256:9-8", 1, "sha256:9-8"),
       )),
     (["locate", "--require=\x9b2J", "L", "M", "N"],
-     f"error: invalid value '\\xc2\\x9b2J' for '{REQUIRE}': at byte 1, '\\xc2\\x9b2J': {MALFORMED}\n"),
+     f"error: invalid value '\\xc2\\x9b2J' for '{REQUIRE}': {malformed(1, chr(92) + 'xc2' + chr(92) + 'x9b2J')}\n"),
     (["verify", "--require", "sha256:0-9", "L", "M", "N"], f"error: invalid value 'sha256:0-9' for '{REQUIRE}': {UNBOUND}\n"),
-    (["expected", "--registers", "24", "L"], f"error: invalid value '24' for '{REGISTERS}': at byte 1, '24': {MALFORMED}\n"),
-    (["expected", "--registers", "0-7+all,", "L"], f"error: invalid value '0-7+all,' for '{REGISTERS}': at byte 9, '': {MALFORMED}\n"),
+    (["expected", "--registers", "24", "L"], f"error: invalid value '24' for '{REGISTERS}': {malformed(1, '24')}\n"),
+    (["expected", "--registers", "0-7+all,", "L"], f"error: invalid value '0-7+all,' for '{REGISTERS}': {malformed(9, '')}\n"),
+    *((["verify", "--require", text, "L", "M", "N"],
+       f"error: invalid value '{text}' for '{REQUIRE}': unknown bank '{bank}': use sha1, sha256, sha384 or sha512\n")
+      for text, bank in (("sha265:0-10", "sha265"), ("SHA256:0-10", "SHA256"), ("sha256:0-10+sm3:10", "sm3"), (":10", ""))),
     *((["attest", "--nonce", nonce, "--require", "sha256:0-10", "L", "M", "Q"], f"error: invalid value '{shown}' for '{NONCE}': {cause}\n")
       for nonce, shown, cause in (
-          ("xy", "xy", "it is not hexadecimal"),
-          ("000", "000", "it is not hexadecimal"),
-          ("\x1b[2J", r"\x1b[2J", "it is not hexadecimal"),
-          ("00", "00", "the nonce has fewer than 16 bytes"),
-          ("0" * 30, "0" * 30, "the nonce has fewer than 16 bytes"),
+          ("xy", "xy", "it must be hexadecimal, two digits per byte"),
+          ("000", "000", "it must be hexadecimal, two digits per byte"),
+          ("\x1b[2J", r"\x1b[2J", "it must be hexadecimal, two digits per byte"),
+          ("00", "00", SHORT_NONCE),
+          ("0" * 30, "0" * 30, SHORT_NONCE),
       )),
     *(([*command, *words, *names], f"error: the argument '{shown}' cannot be used {why}\n")
       for command, names in (
@@ -219,16 +205,17 @@ USAGES = [
      f"error: the following required arguments were not provided:\n  {REQUIRE}\n\n"
      f"Usage: ima-agent attest {NONCE} {REQUIRE} <LOG> <LIST> <QUOTE> [EXPECTED]\n{MORE}"),
     (["attest", "--nonce", "00", "--require", "sha256", "L", "M", "Q"],
-     f"error: invalid value 'sha256' for '{REQUIRE}': at byte 1, 'sha256': {MALFORMED}\n"),
-    (["attest", "--nonce", "xy", "--require", "sha256", "L", "M", "Q"], f"error: invalid value 'xy' for '{NONCE}': it is not hexadecimal\n"),
+     f"error: invalid value 'sha256' for '{REQUIRE}': {malformed(1, 'sha256')}\n"),
+    (["attest", "--nonce", "xy", "--require", "sha256", "L", "M", "Q"],
+     f"error: invalid value 'xy' for '{NONCE}': it must be hexadecimal, two digits per byte\n"),
     *((["attest", "--nonce", "0" * 32, "--require", text, "L", "M", "Q"], f"error: invalid value '{text}' for '{REQUIRE}': {cause}\n")
       for text, cause in (
-          ("sha256", f"at byte 1, 'sha256': {MALFORMED}"),
+          ("sha256", malformed(1, "sha256")),
           ("sha256:0-9", UNBOUND),
-          ("sha256:10", "register 0 is not required in any bank"),
-          ("sha256:0-2,sha384:4-10", "register 3 is not required in any bank"),
-          ("sha1:0-10", "register 0 is required in the SHA-1 bank alone"),
-          ("sha256:0-10,sha1:16", "register 16 is required in the SHA-1 bank alone"),
+          ("sha256:10", UNQUOTED.format(0)),
+          ("sha256:0-2,sha384:4-10", UNQUOTED.format(3)),
+          ("sha1:0-10", WEAK.format(0)),
+          ("sha256:0-10,sha1:16", WEAK.format(16)),
       )),
 ]
 
@@ -296,177 +283,11 @@ def read_piece(terminal, end):
         return b""
 
 
-def shown(text):
-    """The bytes of a text as a terminal is to get them."""
-    data = text if isinstance(text, bytes) else text.encode("utf-8", "surrogateescape")
-    return b"".join(bytes([each]) if 0x20 <= each <= 0x7E else b"\\x%02x" % each for each in data)
-
-
-def sentence_of(words, line, folder):
-    """What a terminal is to get of a run of these words that has this fault's line, in bytes; None if it is some text of clap's."""
-    if line == b"refused: command line":
-        return None
-    text = line.decode("utf-8", "surrogateescape")
-    name, cause = fault_in_words(text, words, folder)
-    return shown(f"{name}: {cause}" if name is not None else cause) + b"\n"
-
-
-def fault_in_words(line, words, folder):
-    """The name of the input that a fault is of, or None, and what is wrong with it."""
-    if line in ("failed: read -", "refused: too long -") and (not words or words[0] in TAKE_STANDARD_INPUT):
-        return None, "cannot read standard input" if line.startswith("failed") else "standard input is longer than 64 MiB"
-    if found := re.fullmatch(r"failed: read (.*)", line, re.DOTALL):
-        return None, unread(found[1], folder, takes_only_files(words))
-    if found := re.fullmatch(r"failed: write (.*)", line, re.DOTALL):
-        return None, f"cannot write {found[1]}"
-    if found := re.fullmatch(r"refused: too long (.*)", line, re.DOTALL):
-        return None, f"{found[1]} is longer than 64 MiB"
-    if found := re.fullmatch(r"refused: not UTF-8 (.*)", line, re.DOTALL):
-        return None, f"{found[1]} is not UTF-8"
-    if line == "refused: not hexadecimal":
-        return "standard input", "the text is not hexadecimal"
-    if line == "failed: memory":
-        return None, "out of memory"
-    inputs, files = names_of(words)
-    if found := re.fullmatch(r"refused: log fault (\d+)(?: at event (\d+))?", line):
-        return inputs["log"], (f"event {found[2]}: " if found[2] else "") + LOG[int(found[1])]
-    if found := re.fullmatch(r"refused: log form fault (\d+)(?: at event (\d+))?", line):
-        number, place = int(found[1]), f"event {found[2]}: " if found[2] else ""
-        return inputs["form"], FORM[number].replace("{event}", found[2] or "") if number in FORM else place + LOG[number]
-    if found := re.fullmatch(r"refused: text list fault (\d+) at line (\d+)", line):
-        return inputs["text"], f"line {found[2]}: {TEXT[int(found[1])]}"
-    if found := re.fullmatch(r"refused: (list|replay) fault (\d+) at entry (\d+)", line):
-        return inputs["list"], f"entry {found[3]}: {(LIST if found[1] == 'list' else REPLAY)[int(found[2])]}"
-    if found := re.fullmatch(r"refused: expected fault ([4-6])", line):
-        return inputs["expected"], EXPECTED[int(found[1])]
-    if found := re.fullmatch(r"refused: expected fault (\d+) at line (\d+)", line):
-        return inputs["expected"], f"line {found[2]}: {EXPECTED[int(found[1])]}"
-    if found := re.fullmatch(r"refused: known fault (\d+) at line (\d+)", line):
-        return refused_known(words, folder), f"line {found[2]}: {KNOWN[int(found[1])]}"
-    if found := re.fullmatch(r"refused: quote fault (\d+)", line):
-        return inputs["quote"], quote_sentence(int(found[1]), words, folder)
-    if found := re.fullmatch(r"refused: signature fault (\d+)", line):
-        number = int(found[1])
-        return inputs["key" if number in OF_KEYS else "signature"], SIGNATURE[number]
-    if found := re.fullmatch(r"refused: key fault (\d+)", line):
-        return inputs["key"], KEY[int(found[1])]
-    if found := re.fullmatch(r"refused: checkpoint fault (\d+)", line):
-        return inputs["checkpoint"], CHECKPOINT[int(found[1])]
-    if found := re.fullmatch(r"refused: book fault (\d+)", line):
-        return inputs["log"] if found[1] == "2" else None, BOOK[int(found[1])]
-    if found := re.fullmatch(r"refused: job (\d+) book fault (\d+)", line):
-        job = int(found[1])
-        return files[job] if job < len(files) else None, f"file {job} is refused: {BOOK[int(found[2])]}"
-    raise ValueError(f"not the line of a fault: {line}")
-
-
-def refused_known(words, folder):
-    """The name of the first file of known digests that is refused."""
-    for name in read_words(words).values["--known"]:
-        try:
-            read_known((folder / name).read_bytes())
-        except Fault:
-            return name
-    raise ValueError("each file of known digests is taken")
-
-
-def quote_sentence(number, words, folder):
-    """The sentence of a fault of a quote. Of the last the table calls `R` what is told: the first register that is not selected."""
-    if number < max(QUOTE):
-        return QUOTE[number]
-    asked = read_words(words)
-    try:
-        require_asked_for(read_quote((folder / names_of(words)[0]["quote"]).read_bytes()), bytes.fromhex(asked.values["--nonce"]),
-                          read_requirement(asked.values["--require"]))
-    except NotAttested as cause:
-        return QUOTE[number].replace(" R ", f" {cause.args[2]} ")
-    raise ValueError("each register is selected")
-
-
-def names_of(words):
-    """The inputs of these words, by what they are, and the files to measure."""
-    if not words:
-        return {"log": "standard input"}, []
-    asked = read_words(words)
-    kinds = INPUTS[asked.command]
-    named = {"checkpoint": "--resume", "expected": "--expected", "quote": "--quote", "list": "--list", "key": "--key", "signature": "--signature"}
-    named = {kind: asked.values.get(option) for kind, option in named.items()}
-    inputs = {**named, **dict(zip(kinds, asked.names))}
-    if asked.values.get("--before") is not None:
-        inputs["log"] = None  # (the fault of either log names none)
-    taken = TAKE_STANDARD_INPUT.get(asked.command, [])
-    inputs = {kind: "standard input" if name == "-" and kind in taken else name for kind, name in inputs.items()}
-    return inputs, asked.names[len(kinds):]
-
-
-def takes_only_files(words):
-    """Whether a signature is verified: then no input is read but regular files."""
-    return bool(words) and read_words(words).values.get("--key") is not None
-
-
-def unread(name, folder, takes_only_files):
-    """That the file of this name cannot be read, and what the system says why, if it still says so; or that it is no regular file."""
-    if takes_only_files and name and (folder / name).exists() and not (folder / name).is_file():
-        return f"cannot read {name}: it is no regular file"
-    place = os.open(folder, os.O_RDONLY)
-    try:
-        file = os.open(name, os.O_RDONLY, dir_fd=place)
-        try:
-            os.read(file, 1)
-        finally:
-            os.close(file)
-    except OSError as error:
-        return f"cannot read {name}: {os.strerror(error.errno)}"
-    except ValueError:  # a NUL in the name, which no call of the system can be given
-        return f"cannot read {name}: file name contained an unexpected NUL byte"
-    finally:
-        os.close(place)
-    return f"cannot read {name}"
-
-
-def fault_line_of(words, text):
-    """The line of the fault that these words' output is, as it is without `--json`; or None. (The lines of entries or events as
-    JSON, or of events that are explained, may stand before it.)"""
-    if text.startswith((b"refused: ", b"failed: ")):
-        return text[:-1]
-    last = text.splitlines()[-1] if words[0] in ("show", "events") and text else text
-    return json.loads(last)["fault"]["message"].encode() if last.startswith(b'{"fault":') else None
-
-
-def is_of_usage(said):
-    """Whether this is a text of clap's, of printable bytes and line feeds alone."""
-    return said.startswith(b"error: ") and said.endswith(b"\n") and all(0x20 <= each <= 0x7E or each == 0x0A for each in said)
-
-
 def hints_due(words, folder, given):
     """What a terminal is to get after an answer to these words that something differs, where standard input has these bytes, if it is a file."""
     if words[0] not in SEEN_BY or not are_regular(words, folder, given):
         return b""
     return "".join(f"{line}\n" for line in next_steps(words, folder, given or b"")).encode()
-
-
-def signing_due(words, line):
-    """The line that says what to do about a refused signature, or a quote's key, or no bytes."""
-    if found := re.fullmatch(rb"refused: signature fault (\d+)", line):
-        return f"{SIGNATURE_HINTS[int(found[1])]}\n".encode()
-    found = re.fullmatch(rb"refused: key fault (\d+)", line)
-    if not found or words[0] == "key":
-        return b""
-    return f"{NO_AREA if int(found[1]) <= LAST_OF_AREAS else NO_ATTESTATION_KEY}\n".encode()
-
-
-def mistake_due(words, line, folder, given):
-    """The line that says what the refused input is in place of what it should be, or no bytes."""
-    found = re.match(rb"refused: (log form|text list|log|list|replay|expected) fault ", line)
-    if not found or not words:
-        return b""
-    kind = {"log form": "form", "text list": "text", "replay": "list"}.get(found[1].decode(), found[1].decode())
-    name = names_of(words)[0][kind]
-    if name in (None, "standard input") or not is_regular(name, folder, given):
-        return b""
-    data = given if name == "/dev/stdin" else (folder / name).read_bytes()
-    mistake = mistake_in("printed" if words[0] == "expected" else kind, data)
-    return shown(f"{name}: {mistake}") + b"\n" if mistake else b""
 
 
 def without_progress(said):
@@ -487,14 +308,15 @@ def case_fault(command, folder, output):
     given = (folder / command.input).read_bytes() if command.input else None
     lines = [*said_anyway(command.words, text), *said_of_padding(command.words, folder, given or b"")] if status == 0 else []
     anyway = "".join(f"{line}\n" for line in lines).encode()
+    # (a case shows what comes elsewhere: of a difference only that no PCR was compared, which a terminal gets among the reasons)
+    alone = f"{NO_EXPECTED}\n".encode() if status == 1 and NO_EXPECTED in command.wanted else b""
     # (this may move the output away)
-    fault = fault_of(command, Answer(status, output, anyway), folder)
+    fault = fault_of(command, Answer(status, output, said if status >= 2 else anyway or alone), folder)
     if fault is not None:
         return f"the answer is another one:\n    {fault}"
     try:
         told = anyway + "".join(f"{line}\n" for line in said_of_match(command.words)).encode() if status == 0 else b""
-        wanted = hints_due(command.words, folder, given) if status == 1 else told if line is None else sentence_of(command.words, line, folder)
-        wanted = wanted and wanted + (mistake_due(command.words, line, folder, given) + signing_due(command.words, line) if line else b"")
+        wanted = hints_due(command.words, folder, given) if status == 1 else told if line is None else said_of_error(command.words, line, folder, given)
         wanted = f"{UNSIGNED}\n".encode() if status == 4 and line is None else wanted
     except (Fault, KeyError, ValueError) as error:
         return f"no table has the words of {text!r}: {error!r}"
@@ -527,25 +349,26 @@ def further_commands():
         unread = b"failed: read %s\n" % name.encode()
         yield Command(f"a name: {escaped}", ["show", name], Ended(3, unread, f"cannot read {escaped}: No such file or directory\n".encode()))
         empty = f"{name} is empty"
-        said = f"{escaped} is empty: event 0: its bytes are not all there\n{escaped} is empty: {EMPTY}\n".encode()
+        said = f"{escaped} is empty: event 0: it is cut short\n{escaped} is empty: {EMPTY}\n".encode()
         yield Command(f"an empty log: {escaped}", ["events", empty], Ended(2, b"refused: log fault 1 at event 0\n", said))
     memory = b"failed: memory\n"
-    yield Command("an argument that is not UTF-8", ["show", b"\xff"], Ended(3, memory, b"an argument is not UTF-8\n"))
-    yield Command("little memory", ["registers", "large 0"], Ended(3, memory, b"out of memory\n"), limit_memory)
+    yield Command("an argument that is not UTF-8", ["show", b"\xff"], Ended(3, memory, b"an argument is not UTF-8: rename the file, or give a link to it\n"))
+    yield Command("little memory", ["registers", "large 0"], Ended(3, memory, OUT_OF_MEMORY), limit_memory)
     yield Command("a folder as standard input", [], Ended(3, b"failed: read -\n", b"cannot read standard input: Is a directory\n"),
                   lambda: give("."))
-    yield Command("standard input without an end", [], Ended(2, b"refused: too long -\n", b"standard input is longer than 64 MiB\n"),
+    endless = f"standard input is longer than 64 MiB\n{TOO_LONG}\n".encode()
+    yield Command("standard input without an end", [], Ended(2, b"refused: too long -\n", endless),
                   lambda: give("/dev/zero"))
     yield Command("a folder as the standard input of events", ["events", "-"], Ended(3, b"failed: read -\n", b"cannot read standard input: Is a directory\n"),
                   lambda: give("."))
     yield Command("standard input of list without an end", ["list", "-"],
-                  Ended(2, b"refused: too long -\n", b"standard input is longer than 64 MiB\n"), lambda: give("/dev/zero"))
+                  Ended(2, b"refused: too long -\n", endless), lambda: give("/dev/zero"))
     yield Command("a file of the name of standard input", ["show", "-"], Ended(3, b"failed: read -\n", b"cannot read -: No such file or directory\n"))
     yield Command("a folder", ["show", "."], Ended(3, b"failed: read .\n", b"cannot read .: Is a directory\n"))
     for title, settle in (
         ("a full device", fill_output), ("a pipe that nobody reads", break_output), ("no standard output", lambda: os.close(1)),
     ):
-        yield Command(title, ["registers", "L"], Ended(3, b"", b"the output could not be written\n"), settle)
+        yield Command(title, ["registers", "L"], Ended(3, b"", NOT_WRITTEN), settle)
     yield Command("no standard input", [], Ended(3, b"failed: read -\n", b"cannot read standard input: Bad file descriptor\n"),
                   lambda: os.close(0))
     yield Command("no standard error", ["show", "none"], Ended(3, b"failed: read none\n", b""), lambda: os.close(2))
@@ -555,8 +378,9 @@ def hinted_commands():
     """Commands of which something differs, or of which an input is not what it should be; their status, and what to do next."""
     judged, quoted = ["firmware.log", "ima.list", "expected.txt"], ["--nonce", NONCE_GIVEN, "--signature-checked"]
     changed, lacks = f"sha256 PCR 4 differs: {OTHER_BOOT}", "EXPECTED lacks {} PCR {}: read it with the others"
-    grown = ("PCR 10 covers the first 99 of 100 entries: the list grew after it was read; collect again, or add --prefix to judge those 99")
-    earlier = ("sha256 PCR 10 differs: it was read at another time than LIST, a kernel before 5.8 extended it by SHA-1 digests with zeros after them, "
+    grown = ("PCR 10 covers the first 99 of 100 entries: the list grew after PCR 10 was read; collect again, or add --prefix to judge only the "
+             "first 99")
+    earlier = ("sha256 PCR 10 differs: it was read at a different time than LIST, a kernel before 5.8 extended it with zero-padded SHA-1 digests, "
                "or an entry is missing or was changed")
     other = AGGREGATES["wrong"]
     yield "all matches", ["verify", "--require=sha256:0-10", *judged], 0, []
@@ -576,10 +400,11 @@ def hinted_commands():
     yield "another value", ["verify", "firmware.log", "ima.list", "changed.txt"], 1, [changed]
     yield "a value that is missing", ["verify", "--require=sha256:10-10", "firmware.log", "ima.list", "four.txt"], 1, [lacks.format("sha256", 10)]
     yield "nothing expected", ["replay", "ima.list", "empty"], 1, [NO_EXPECTED]
+    yield "nothing to locate", ["locate", "firmware.log", "ima.list", "empty"], 1, [NO_EXPECTED]
     yield "a value of the log", ["replay", "ima.list", "four.txt"], 1, [
         "sha256 PCR 4 differs: replay reads no log; ima-agent verify does"]
     yield "no bank", ["verify", "firmware.log", "ima.list", "sha1.txt"], 1, [
-        "sha1 is no bank of LOG, so its PCRs cannot be judged: LOG is of another machine, or was changed"]
+        "sha1 is not a bank of LOG, so its PCRs cannot be judged: LOG is from another machine or was changed"]
     yield "an empty list", ["verify", "firmware.log", "empty", "expected.txt"], 1, [
         NO_ENTRIES]
     yield "another boot", ["verify", "firmware.log", "other.list", "empty"], 1, [
@@ -593,7 +418,7 @@ def hinted_commands():
     yield "an event of PCR 10", ["verify", "--require=sha256:10", "ten.log", "ima.list", "expected.txt"], 1, [other, event, zero]
     yield "more than three causes", ["verify", "--require=sha256:10+sha1:9", "ten.log", "ima.list", "expected.txt"], 1, [other, event, zero]
     yield "an entry of another PCR", ["replay", "--require=sha256:10", "nine.list", "ten.txt"], 1, [
-        earlier, "entry 98 extends PCR 9, as a rule with pcr= in the policy has it; replay takes a list whose entries extend PCR 10 alone"]
+        earlier, "entry 98 extends PCR 9, as a policy rule with pcr= requests; replay accepts only lists whose entries all extend PCR 10"]
     # (its prefix without that entry matches)
     eleven = f"entry 99 extends PCR 11, which only the log should: {APART}"
     yield "a list with an entry of PCR 11", ["verify", "firmware.log", "eleven.list", "expected.txt"], 1, [
@@ -606,10 +431,10 @@ def hinted_commands():
     yield "a longer list with an entry of PCR 11", ["verify", "firmware.log", "both.list", "expected.txt"], 1, [
         earlier, eleven, changed.replace("PCR 4", "PCR 11")]
     yield "where a value of the log is", ["locate", "firmware.log", "ima.list", "changed.txt"], 1, [
-        f"sha256 PCR 4 never has its value: {OTHER_BOOT}"]
-    sha1 = re.sub("a kernel .* them, ", "", earlier.replace("sha256", "sha1"))
+        f"sha256 PCR 4 never has the expected value: {OTHER_BOOT}"]
+    sha1 = re.sub("a kernel .* digests, ", "", earlier.replace("sha256", "sha1"))
     yield "another value of SHA-1", ["replay", "ima.list", "sha1.ten.txt"], 1, [sha1]
-    unknown = ("entry 93 is the first that no known file has: ima-agent show names its file; compare that with the file in its package")
+    unknown = ("entry 93 is the first that matches no known digest: ima-agent show names its file; compare that with the file in its package")
     yield "files that are not known", ["verify", "--require=sha256:0-10", "--known=known", *judged], 1, [unknown]
     yield "files that are not known, by a quote", [
         "attest", *quoted, "--require=sha256:0-10", "--known=known", "firmware.log", "ima.list", "quote.msg"], 1, [unknown]
@@ -634,34 +459,42 @@ def hinted_commands():
 
 
 def mistaken_commands():
-    """Commands whose input is not what it should be, what is refused, its sentence, and what it is."""
-    head = "the first event is not the Specification ID Version Event of a crypto-agile log"
-    line, cut = "line 1: it is not a register line", "event 0: its bytes are not all there"
-    for words, refused, name, sentence, mistake in (
+    """Commands whose input is not what it should be, what is refused, and what is said: the row of the fault, and what the input is."""
+    head, line, cut = LOG[2], EXPECTED[1].at("line", 1), LOG[1].at("event", "0")
+    register, no_list = LIST[2].at("entry", "0"), TEXT[1].at("line", 1)
+    for words, refused, name, row, mistake in (
         (["verify", "firmware.log", "ima.list", "tpm2_pcrread.txt"], "expected fault 1 at line 1", "tpm2_pcrread.txt", line, PRINTED_FOR_EXPECTED),
         (["events", "--explain", "--expected", "tpm2_pcrread.txt", "firmware.log"], "expected fault 1 at line 1", "tpm2_pcrread.txt", line,
          PRINTED_FOR_EXPECTED),
-        (["verify", "firmware.log", "ima.ascii", "expected.txt"], "list fault 2 at entry 0", "ima.ascii",
-         "entry 0: it names a register of 24 or more", TEXT_FOR_LIST),
+        (["verify", "firmware.log", "ima.list", "capital bank"], "expected fault 1 at line 1", "capital bank", line, CAPITALS),
+        (["verify", "firmware.log", "ima.list", "short value"], "expected fault 1 at line 1", "short value", line, None),
+        (["expected", "expected.txt"], "expected fault 1 at line 1", "expected.txt", line, EXPECTED_FOR_PRINTED),
+        (["key", "AK.pem"], "key fault 1", "AK.pem", KEY[1].as_sentence(), PEM_FOR_AREA),
+        (["key", "--json", "--print=pem", "empty"], "key fault 1", "empty", KEY[1].as_sentence(), None),
+        (["verify", "firmware.log", "ima.ascii", "expected.txt"], "list fault 2 at entry 0", "ima.ascii", register, TEXT_FOR_LIST),
         (["verify", "ima.list", "firmware.log", "expected.txt"], "log fault 2", "ima.list", head, LIST_FOR_LOG),
         (["events", "ima.list"], "log fault 2", "ima.list", head, LIST_FOR_LOG),
         (["registers", "old.log"], "log fault 2", "old.log", head, OLD_LOG),
         (["registers", "empty"], "log fault 1 at event 0", "empty", cut, EMPTY),
-        (["expected", "empty"], "expected fault 6", "empty", "no register is stated, or none of those that are wanted", NOTHING_PRINTED),
+        (["expected", "empty"], "expected fault 6", "empty", EXPECTED[6], NOTHING_PRINTED),
         (["registers", "L cut"], "log fault 1 at event 0", "L cut", cut, None),
-        (["list", "ima.list"], "text list fault 1 at line 1", "ima.list", f"line 1: {TEXT[1]}", LIST_FOR_TEXT),
-        (["list", "firmware.log"], "text list fault 1 at line 1", "firmware.log", f"line 1: {TEXT[1]}", LOG_FOR_LIST),
+        (["list", "ima.list"], "text list fault 1 at line 1", "ima.list", no_list, LIST_FOR_TEXT),
+        (["list", "firmware.log"], "text list fault 1 at line 1", "firmware.log", no_list, LOG_FOR_LIST),
         (["log", "ima.list"], "log form fault 13", "ima.list", FORM[13], LIST_FOR_LOG),
         (["log", "empty"], "log form fault 1 at event 0", "empty", cut, EMPTY),
         (["log", "L cut"], "log form fault 1 at event 0", "L cut", cut, None),
         *((["registers", f"{name} is a list"], "log fault 2", f"{escaped} is a list", head, LIST_FOR_LOG) for name, escaped in NAMES),
-        (["verify", "firmware.log", "link to ima.ascii", "expected.txt"], "list fault 2 at entry 0", "link to ima.ascii",
-         "entry 0: it names a register of 24 or more", TEXT_FOR_LIST),
+        (["verify", "firmware.log", "link to ima.ascii", "expected.txt"], "list fault 2 at entry 0", "link to ima.ascii", register, TEXT_FOR_LIST),
         (["registers", "link to old.log"], "log fault 2", "link to old.log", head, OLD_LOG),
         (["registers", "/dev/null"], "log fault 1 at event 0", "/dev/null", cut, None),
+        (["verify", "--require=sha256:0-10", "--known=known", "--known=ten.txt", "firmware.log", "ima.list", "expected.txt"],
+         "known fault 2 at line 1", "ten.txt", KNOWN[2].at("line", 1), None),
     ):
-        said = [f"{name}: {sentence}"] + ([f"{name}: {mistake}"] if mistake else [])
-        yield f"{mistake or 'no mistake'}: {words}", words, f"refused: {refused}\n".encode(), said
+        said = [f"{name}: {row.wrong}", f"{name}: {mistake}" if mistake else row.advice]
+        line_of_fault = f"refused: {refused}\n"
+        if "--json" in words:
+            line_of_fault = json.dumps({"fault": {"kind": "key", "number": 1, "message": line_of_fault[:-1]}}, separators=(",", ":")) + "\n"
+        yield f"{mistake or 'no mistake'}: {words}", words, line_of_fault.encode(), said
 
 
 def weak_commands():
@@ -687,12 +520,12 @@ def signed_commands():
     yield "the caller did", ["attest", "--signature-checked", *asked, *quoted], 0, b"verdict match\n", []
     yield "a valid signature", ["attest", "--key=AK.pem", "--signature=quote.sig", *asked, *quoted], 0, b"signature valid\nverdict match\n", []
     for key, signature, status, line, name, sentence, hint in (
-        ("AK.pem", "empty", 4, "signature fault 1", "empty", SIGNATURE[1], SIGNATURE_HINTS[1]),
-        ("AK.pem", "quote.msg", 4, "signature fault 2", "quote.msg", SIGNATURE[2], SIGNATURE_HINTS[2]),
-        ("AK.pem", "changed.sig", 4, "signature fault 7", "changed.sig", SIGNATURE[7], SIGNATURE_HINTS[7]),
-        ("short.pem", "quote.sig", 4, "signature fault 9", "short.pem", SIGNATURE[9], SIGNATURE_HINTS[9]),
-        ("quote.msg", "quote.sig", 2, "key fault 1", "quote.msg", KEY[1], NO_AREA),
-        ("empty", "quote.sig", 2, "key fault 1", "empty", KEY[1], NO_AREA),
+        ("AK.pem", "empty", 4, "signature fault 1", "empty", SIGNATURE[1].as_sentence().wrong, SIGNATURE_HINTS[1]),
+        ("AK.pem", "quote.msg", 4, "signature fault 2", "quote.msg", SIGNATURE[2].as_sentence().wrong, SIGNATURE_HINTS[2]),
+        ("AK.pem", "changed.sig", 4, "signature fault 7", "changed.sig", SIGNATURE[7].as_sentence().wrong, SIGNATURE_HINTS[7]),
+        ("short.pem", "quote.sig", 4, "signature fault 9", "short.pem", SIGNATURE[9].as_sentence().wrong, SIGNATURE_HINTS[9]),
+        ("quote.msg", "quote.sig", 2, "key fault 1", "quote.msg", KEY[1].as_sentence().wrong, NO_AREA),
+        ("empty", "quote.sig", 2, "key fault 1", "empty", KEY[1].as_sentence().wrong, NO_AREA),
     ):
         words, said = [f"--key={key}", f"--signature={signature}"], [f"{name}: {sentence}", hint]
         yield f"{line}, of {name}", ["attest", *words, *asked, *quoted], status, f"refused: {line}\n".encode(), said
@@ -700,7 +533,7 @@ def signed_commands():
     for name in ("firmware.log", "ima.list", "quote.msg", "AK.pem", "quote.sig"):
         words = ["attest", "--key=AK.pem", "--signature=quote.sig", *asked, *quoted]
         piped = [each.replace(name, "pipe") for each in words]
-        yield f"a pipe in place of {name}", piped, 3, b"failed: read pipe\n", ["cannot read pipe: it is no regular file"]
+        yield f"a pipe in place of {name}", piped, 3, b"failed: read pipe\n", ["cannot read pipe: it is not a regular file: copy it to one"]
     signed = [*asked, "--quote=quote.msg", "--key=AK.pem", "--signature=quote.sig"]
     for title, words in (
         ("as the log of a boot", ["boot", *signed, "--list=ima.list", "pipe"]),
@@ -709,7 +542,7 @@ def signed_commands():
         ("as the log of events", ["events", "--explain", *signed, "--list=ima.list", "pipe"]),
         ("as the list of events", ["events", "--explain", *signed, "--list=pipe", "firmware.log"]),
     ):
-        yield f"a pipe {title}", words, 3, b"failed: read pipe\n", ["cannot read pipe: it is no regular file"]
+        yield f"a pipe {title}", words, 3, b"failed: read pipe\n", ["cannot read pipe: it is not a regular file: copy it to one"]
 
 
 def piped_commands():
@@ -839,6 +672,8 @@ def make_samples(folder):
     (folder / "ten.log").write_bytes((folder / "L").read_bytes().replace(bytes.fromhex("04000000 04000000"), bytes.fromhex("0a000000 04000000")))
     (folder / "sha1.ten.txt").write_text(f"sha1 10 {'ab' * 20}\n")
     shutil.copy(SAMPLES / "known" / "SHA256SUMS", folder / "known")
+    (folder / "capital bank").write_text(values.replace("sha256", "SHA256"))
+    (folder / "short value").write_text("sha256 0 00\n")
     (folder / "sha1.txt").write_text(values + f"sha1 10 {'00' * 20}\n")
     (folder / "empty").touch()
     (folder / "L cut").write_bytes((folder / "L").read_bytes()[:40])
@@ -936,24 +771,27 @@ class Further(harness.TestCase):
     def test_commands(self):
         for command in further_commands():
             self.check(f"{command.title}, on a terminal", left_on_terminal(command, self.room), command.wanted)
-            self.check(f"{command.title}, elsewhere", left_elsewhere(command, self.room), command.wanted._replace(said=b""))
+            self.check(f"{command.title}, elsewhere", left_elsewhere(command, self.room), command.wanted)
 
     def test_hints(self):
-        """What to do next comes on a terminal, and elsewhere only by --explain; status and output are those without."""
+        """What to do next comes on a terminal, and elsewhere only by --explain, but that nothing was compared; status and output are those without."""
         make_samples(self.room)
         for title, words, status, hints in hinted_commands():
             said = "".join(f"{hint}\n" for hint in hints).encode()
             command = Command(title, words, None, pipe_list if "/dev/stdin" in words else None)
             explained = command._replace(words=[words[0], "--explain", *words[1:]])
             plain = left_elsewhere(command, self.room)
-            self.check(f"{title}, elsewhere", (plain.status, plain.said), (status, b""))
+            anyway = f"{NO_EXPECTED}\n".encode() if NO_EXPECTED in hints else b""
+            self.check(f"{title}, elsewhere", (plain.status, plain.said), (status, anyway))
             self.check(f"{title}, on a terminal", left_on_terminal(command, self.room), plain._replace(said=said))
             self.check(f"{title}, explained", left_elsewhere(explained, self.room), plain._replace(said=said))
             self.check(f"{title}, explained on a terminal", left_on_terminal(explained, self.room), plain._replace(said=said))
 
     def test_nothing_compared(self):
-        """That a match compared nothing is told everywhere."""
+        """That a match compared nothing is told everywhere, but not with --quiet."""
         make_samples(self.room)
+        quiet = left_elsewhere(Command(None, ["verify", "firmware.log", "ima.list", "empty", "-q"], None), self.room)
+        self.check("nothing compared, and silence", (quiet.status, quiet.said), (0, b""))
         for words in ([], ["--json"], ["--explain"]):
             command = Command(None, ["verify", *words, "firmware.log", "ima.list", "empty"], None)
             for place, leave in {"on a terminal": left_on_terminal, "elsewhere": left_elsewhere}.items():
@@ -972,12 +810,12 @@ class Further(harness.TestCase):
             self.check(f"{words}, explained", left_elsewhere(explained, self.room), plain)
 
     def test_signatures(self):
-        """What to do about a signature or a key comes on a terminal, and with --explain elsewhere; no pipe is read where a signature is verified."""
+        """What to do about a signature or a key comes everywhere; no pipe is read where a signature is verified."""
         make_samples(self.room)
         for title, words, status, end, lines in signed_commands():
             said = "".join(f"{line}\n" for line in lines).encode()
             plain = ended_elsewhere(words, self.room)
-            self.check(f"{title}, elsewhere", (plain.status, plain.output[-len(end):], plain.said), (status, end, b""))
+            self.check(f"{title}, elsewhere", (plain.status, plain.output[-len(end):], plain.said), (status, end, said))
             self.check(f"{title}, on a terminal", ended_on_terminal(words, self.room), plain._replace(said=said))
             if words[0] == "attest":
                 self.check(f"{title}, explained", ended_elsewhere(["attest", "--explain", *words[1:]], self.room), plain._replace(said=said))
@@ -991,23 +829,25 @@ class Further(harness.TestCase):
             self.check(f"a checkpoint: {words}", ended_elsewhere(words, self.room).status, 0)
         for piped, words, status in piped_commands():
             plain = ended_elsewhere(words, self.room)
-            sentence = b"" if status == 1 else sentence_of(words, plain.output[:-1], self.room)
-            self.check(f"{words}, elsewhere", (plain.status, plain.said), (status, b""))
+            sentence = b"" if status == 1 else said_of_error(words, plain.output[:-1], self.room, None, is_piped=True)
+            said = b"" if status == 1 else said_of_error(words, plain.output[:-1], self.room, None)
+            self.check(f"{words}, elsewhere", (plain.status, plain.said), (status, said))
             wanted, title = plain._replace(said=sentence), f"{words}, {piped} a pipe"
             explained = [words[0], "--explain", *words[1:]]
             self.check(f"{title}, explained", left_with_pipe(explained, piped, self.room, ended_elsewhere), wanted)
             self.check(f"{title}, on a terminal", left_with_pipe(words, piped, self.room, ended_on_terminal), wanted)
 
     def test_mistakes(self):
-        """An input that is not what it should be is told on a terminal, and elsewhere only by --explain."""
+        """An input that is not what it should be is told everywhere, but not with --quiet."""
         make_samples(self.room)
         for title, words, line, lines in mistaken_commands():
             command, said = Command(title, words, None), "".join(f"{each}\n" for each in lines).encode()
             self.check(f"{title}, on a terminal", left_on_terminal(command, self.room), Ended(2, line, said))
-            self.check(f"{title}, elsewhere", left_elsewhere(command, self.room), Ended(2, line, b""))
-            if words[0] == "verify":
-                explained = command._replace(words=["verify", "--explain", *words[1:]])
-                self.check(f"{title}, explained", left_elsewhere(explained, self.room), Ended(2, line, said))
+            self.check(f"{title}, elsewhere", left_elsewhere(command, self.room), Ended(2, line, said))
+            for option in ("-q", "--quiet"):
+                quiet = command._replace(words=[words[0], option, *words[1:]])
+                self.check(f"{title}, {option}", left_elsewhere(quiet, self.room), Ended(2, line, b""))
+                self.check(f"{title}, {option}, on a terminal", left_on_terminal(quiet, self.room), Ended(2, line, b""))
 
     def test_waiting(self):
         """Without arguments a terminal that is standard input, too, is told what is read, and nothing else is."""
@@ -1020,9 +860,9 @@ class Further(harness.TestCase):
         finally:
             os.close(theirs)
             os.close(ours)
-        sentence = b"standard input: event 0: its bytes are not all there\n"
+        sentence = b"standard input: event 0: it is cut short\nCopy the log again.\n"
         self.check("nothing typed", (status, said), (2, WAITING + sentence))
-        self.check("nothing typed, elsewhere", (elsewhere.returncode, elsewhere.stderr), (2, b""))
+        self.check("nothing typed, elsewhere", (elsewhere.returncode, elsewhere.stderr), (2, sentence))
         status, said = run_on_terminal([], self.room, subprocess.DEVNULL, subprocess.DEVNULL)
         self.check("nothing given", (status, said), (2, sentence))
 
@@ -1078,7 +918,7 @@ class Further(harness.TestCase):
             found, plain = left_on_terminal(command, self.room), left_elsewhere(command, self.room)
             self.check(f"{title}, on a terminal", progress_fault(found.said, len(names), end), None)
             is_same = found[:2] == plain[:2] and (found.status == 0) == (end == b"")
-            self.check(f"{title}, elsewhere", None if is_same and plain.said == b"" else f"{found[:2]} on a terminal, and {plain}", None)
+            self.check(f"{title}, elsewhere", None if is_same and plain.said == end else f"{found[:2]} on a terminal, and {plain}", None)
 
 
 if __name__ == "__main__":

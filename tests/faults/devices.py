@@ -13,8 +13,8 @@ A command of each kind (those of `tests/faults/sweep.py`) runs again and again, 
   file fail in turn. The answer must be `failed: write` with its name, and what has that name must stay as it was.
 - Each write fails in turn, or takes no byte. What was written must be a prefix of the output, with nothing after it, and the status 3.
 
-Standard error must be empty; but with `--explain` it must have that the file cannot be read or written. If a call fails in the second look at
-inputs, the answer must be the same, and standard error that of an input, or of a prefix of the list, which is not looked at again.
+Standard error must have that the file or the output cannot be read or written. If a call fails in the second look at inputs, the answer must be the
+same, and standard error that of an input, or of a prefix of the list, which is not looked at again.
 
 For each command the script prints how many calls failed. It counts commands."""
 
@@ -32,6 +32,7 @@ sys.path[:0] = [str(HERE.parent), str(HERE.parent / "cases"), str(HERE)]
 
 import harness  # noqa: E402
 from answers import answer_of, saved_by  # noqa: E402
+from said import ADVICE, NOT_WRITABLE, NOT_WRITTEN, shown  # noqa: E402
 from reference.hints import next_steps  # noqa: E402
 from sweep import check_runs, command_runs, is_explained  # noqa: E402
 
@@ -93,7 +94,8 @@ class Devices:
 def is_told(found, wanted, name, run):
     """Whether an answer tells that this file failed, or is the refusal that is wanted in any case, or one that was explained."""
     command, words, kind = run.command, run.command.words, "read"
-    if found == wanted and wanted[0] > 1 or found[:2] == wanted[:2] and is_explained(command) and found[2] in second_looks(wanted, run):
+    is_looked_at = wanted[0] > 1 or is_explained(command)
+    if found == wanted and wanted[0] > 1 or found[:2] == wanted[:2] and is_looked_at and found[2] in second_looks(wanted, run):
         return True
     if command.saved and name == f"{command.saved}.0.new".encode():
         kind, name = "write", command.saved.encode()
@@ -102,14 +104,14 @@ def is_told(found, wanted, name, run):
         line = json.dumps({"fault": {"kind": kind, "message": line[:-1].decode()}}, separators=(",", ":"), ensure_ascii=False).encode() + b"\n"
     status, text, errors = found
     before = text.removesuffix(line)
-    if is_explained(command):
-        return status == FAILED and errors == b"cannot %s %s\n" % (kind.encode(), name) and text == line
-    return (status, errors) == (FAILED, b"") and text != before and (not before or is_read_before(before, wanted[1], words))
+    said = b"cannot %s %s\n" % (kind.encode(), b"standard input" if name == b"-" else shown(name))
+    is_said = status == FAILED and errors == said + (shown(NOT_WRITABLE) + b"\n" if kind == "write" else b"")
+    return is_said and text != before and (not before or not is_explained(command) and is_read_before(before, wanted[1], words))
 
 
 def second_looks(wanted, run):
-    """What standard error may have after a second look of which a call failed, if the answer is explained. A refusal keeps its sentence. Why a
-    file cannot be read is asked anew."""
+    """What standard error may have after a second look of which a call failed. A refusal keeps its first line, and then has what the table advises.
+    Why a file cannot be read is asked again."""
     status, _, errors = wanted
     if status == 1:
         steps = next_steps(run.command.words, run.folder, has_prefix=False)
@@ -117,7 +119,8 @@ def second_looks(wanted, run):
     if status == FAILED:
         about, _, _ = errors.rpartition(b": ")
         return {errors, *(b"%s: %s\n" % (about, os.strerror(error).encode()) for _, causes, _ in FAILING for error in causes if error)}
-    return {errors, b"".join(errors.splitlines(keepends=True)[:1])}
+    first = b"".join(errors.splitlines(keepends=True)[:1])
+    return {errors, first, *(first + shown(advice) + b"\n" for advice in ADVICE)}
 
 
 def is_read_before(text, wanted, words):
@@ -128,9 +131,9 @@ def is_read_before(text, wanted, words):
 
 
 def is_cut(found, wanted, _name, run):
-    """Whether an answer is a prefix of the one wanted, and no more. (Why an input is refused may be explained then, too.)"""
+    """Whether an answer is a prefix of the one wanted, and no more, and this is said, or what is wrong, whose line could not be written."""
     status, text, errors = found
-    is_due = errors == b"" or is_explained(run.command) and errors == wanted[2]
+    is_due = errors == NOT_WRITTEN or wanted[0] > 1 and errors == wanted[2]
     return status == FAILED and is_due and text != wanted[1] and wanted[1].startswith(text)
 
 

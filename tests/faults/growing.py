@@ -124,7 +124,7 @@ class Room:
     def answer(self, *words, command=("verify",)):
         """The program's status and output for a command with these words, which must be the reference's, and so must the file that is saved."""
         words, before = [*command, *words], self.saved()
-        done = subprocess.run([self.program, *words], cwd=self.folder, stdin=subprocess.DEVNULL, capture_output=True, timeout=SECONDS)
+        done = subprocess.run([self.program, words[0], "-q", *words[1:]], cwd=self.folder, stdin=subprocess.DEVNULL, capture_output=True, timeout=SECONDS)
         answer, saved = (done.returncode, done.stdout), self.saved()
         self.restore(before)
         wanted = reference.answer(words, self.folder)

@@ -19,7 +19,7 @@ from collections import Counter
 from concurrent.futures import ProcessPoolExecutor
 from pathlib import Path
 
-sys.path[:0] = [str(Path(__file__).resolve().parents[1])]
+sys.path[:0] = [str(Path(__file__).resolve().parents[1]), str(Path(__file__).resolve().parents[1] / "cases")]
 import harness  # noqa: E402
 from boots import EV_NO_ACTION, changed_bytes  # noqa: E402
 from harness import ROOT  # noqa: E402
@@ -27,6 +27,7 @@ from reference.faults import Fault  # noqa: E402
 from reference.log import Event, Log, read_log  # noqa: E402
 from reference.log_forms import EV_EFI_HCRTM_EVENT, in_sha1_form, log_of  # noqa: E402
 from reference.registers import ALGORITHMS, SHA1  # noqa: E402
+from said import said_of_error  # noqa: E402
 
 parser = argparse.ArgumentParser(usage="tests/faults/log_forms.py [--logs N] [PROGRAM]")
 parser.add_argument("--logs", type=int, default=4000)
@@ -89,13 +90,14 @@ def random_form(chance):
     return data + random_padding(chance)
 
 
-def wanted_of(data):
-    """What is answered by the reference, as status, output and what is said beside it; and which kind of answer it is."""
+def wanted_of(data, file):
+    """What is answered by the reference of the data in this file, as status, output and what is said beside it; and which kind of answer it is."""
     try:
         log, padding = log_of(data)
     except Fault as fault:
-        return (fault.status, f"{fault.line}\n".encode(), b""), fault.number
-    told = f"padding cut: {padding} bytes behind the last event\n".encode() if padding else b""
+        line = fault.line.encode()
+        return (fault.status, line + b"\n", said_of_error(["log", str(file)], line, file.parent, None)), fault.number
+    told = f"padding cut: {padding} bytes after the last event\n".encode() if padding else b""
     form = "crypto-agile" if data.startswith(log) else "SHA-1 form"
     return (0, log, told), f"{form}, {'padding' if padding else 'no padding'}"
 
@@ -114,7 +116,7 @@ def compared(seed):
         for place in range(LOGS_OF_A_SEED):
             data = random_form(chance)
             file.write_bytes(data)
-            found, (wanted, kind) = found_of(file), wanted_of(data)
+            found, (wanted, kind) = found_of(file), wanted_of(data, file)
             told[kind] += 1
             wrong += [f"seed {seed}, log {place}: {found}, and not {wanted}: {data.hex()}"] if found != wanted else []
     return told, wrong

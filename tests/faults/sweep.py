@@ -41,7 +41,8 @@ import calls  # noqa: E402
 import form  # noqa: E402
 import harness  # noqa: E402
 import reference  # noqa: E402
-from answers import answer_of, fault_of  # noqa: E402
+from answers import answer_of, fault_of, given_to  # noqa: E402
+import said  # noqa: E402
 from calls import REFUSED, TEST  # noqa: E402
 from reference.command_line import COMMANDS, HelpAsked, asks_for_help, asks_for_version, read_arguments  # noqa: E402
 from reference.faults import Fault  # noqa: E402
@@ -54,8 +55,8 @@ MOST_REFUSALS = 100_000
 MOST_BYTES = 64 * 1024
 NO_TEST = "no test has this name"
 CRATE = re.compile(r"^(\w+)[^:#\n]*:", re.MULTILINE)
-OUT_OF_MEMORY = (3, b"failed: memory\n", b"")
-OUT_OF_MEMORY_AS_JSON = (3, b'{"fault":{"kind":"memory","message":"failed: memory"}}\n', b"")
+OUT_OF_MEMORY = (3, b"failed: memory\n", said.OUT_OF_MEMORY)
+OUT_OF_MEMORY_AS_JSON = (3, b'{"fault":{"kind":"memory","message":"failed: memory"}}\n', said.OUT_OF_MEMORY)
 FAULT = re.compile(r"(?:refused|failed): (?:job \d+ )?(?:(.* fault \d+)|(read|write|too long|not UTF-8|[a-z ]+))")
 MEBIBYTE = 1 << 20
 LARGE_FILES = 50
@@ -102,10 +103,16 @@ class CommandRun:
         return f"{self.case.name}:{self.command.line}: {self.command.text}"
 
     def wants_of_memory(self):
-        """The answers of which one is due out of memory: with `--json` the plain one while the arguments are read, and with `--explain` the one
-        that stands on standard error, too, once they are."""
-        wanted = (OUT_OF_MEMORY, OUT_OF_MEMORY_AS_JSON) if "--json" in self.command.words else (OUT_OF_MEMORY,)
-        return wanted + tuple((status, text, b"out of memory\n") for status, text, _ in wanted if is_explained(self.command))
+        """The answers of which one is due out of memory: with `--json` the plain one while the arguments are read."""
+        return (OUT_OF_MEMORY, OUT_OF_MEMORY_AS_JSON) if "--json" in self.command.words else (OUT_OF_MEMORY,)
+
+    def lacks_line(self, found):
+        """Whether an answer is that of a fault whose words were said, and whose line as JSON lacked memory."""
+        if self.command.status < 2 or "--json" not in self.command.words or found[:2] != OUT_OF_MEMORY_AS_JSON[:2]:
+            return False
+        text = "".join(f"{line}\n" for line in self.command.wanted).encode()
+        due = said.said_of_end(self.command.words, self.command.status, text, self.folder, given_to(self.command, self.folder))
+        return said.is_of_usage(found[2]) if due is None else found[2] == due
 
     def output_of_memory(self, output):
         """What is due out of memory, of an output: of a list's lines, or a log's lines of JSON or of events that are explained, the last, if
@@ -123,9 +130,10 @@ class CommandRun:
         with tempfile.TemporaryDirectory() as name:
             answer = answer_of(self.program, self.command, self.folder, Path(name, "output"), settings)
             output = self.output_of_memory(answer.output.read_bytes())
-            if met.exists() and (answer.status, output, answer.errors) in self.wants_of_memory():
+            found = answer.status, output, answer.errors
+            if met.exists() and (found in self.wants_of_memory() or self.lacks_line(found)):
                 return None
-            return fault_of(self.command, answer, self.folder)
+            return fault_of(self.command, answer, self.folder, is_short_of_memory=met.exists())
 
 
 def is_explained(command):
@@ -159,6 +167,8 @@ def kind_of(command, folder):
 
 def command_runs(program, folder):
     """A run of a command of each kind; and what is wrong with cases."""
+    if not program.is_file():
+        raise FileNotFoundError(program)
     shared, runs, faults = form.read_shared(), {}, []
     for number, path in enumerate(form.case_files()):
         try:

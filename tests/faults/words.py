@@ -5,9 +5,9 @@ tests/faults/words.py [ROOT]: the tree whose crates are read, or else the one th
 
 The tables of docs/errors.txt must be those of crates/error_texts, as error_tables.py writes them.
 
-A fault is displayed by its `#[error("..")]`; the program tells it to a terminal. The faults with a number must have the sentences of the tables
-of docs/errors.txt, or others that words.txt has by table and number. All others, and the texts of `agent_inputs/src/fault.rt` and of
-`hints/src/explanations.rt` that put sentences together, must be those of words.txt, by crate and fault.
+A fault is displayed by its `#[error("..")]`. The faults with a number must have the sentences of the tables of docs/errors.txt, or others that
+words.txt has by table and number. All others, and the texts of `agent_inputs/src/fault.rt` and of `hints` that put sentences together, must be those of
+words.txt, by crate and fault.
 
 A row of a table that begins with 'it' or 'its' says what is wrong at a place, which its sentence names first."""
 
@@ -134,7 +134,7 @@ class Words(harness.TestCase):
 
     def test_other_words(self):
         found = {name: sentence for name, (_, sentence) in faults_in(self.root).items() if not is_numbered(name)}
-        for file in ("agent_inputs/src/fault.rt", "hints/src/explanations.rt", "hints/src/task_inputs.rt"):
+        for file in ("agent_inputs/src/fault.rt", *(f"hints/src/{name}.rt" for name in ("explanations", "fault_lines", "selections", "task_inputs"))):
             found |= texts_in(self.root / "crates" / file)
         wanted = {name: sentence for name, sentence in self.words.items() if not BY_NUMBER.fullmatch(name)}
         for name in sorted({*found, *wanted}):

@@ -25,7 +25,7 @@ GOOD = "e8ed95b94e8d66f42e5b9be4d794dc0c7701e2360f03537fe59e9ba861a8024f"
 OTHER = "a2bcf779880ae33077f9e7992851299f30cea5f6cffc6512de6cd10aa457a7f3"
 MOMENT_AGO = "UPDATE ends SET time = strftime('%Y-%m-%dT%H:%M:%f+00:00', 'now', '-5 seconds')"
 
-CUT = "The firmware event log is damaged{}: its bytes are not all there. Copy the log again."
+CUT = "The firmware event log is damaged{}: it is cut short. Copy the log again."
 AHEAD = "UPDATE {} SET time = strftime('%Y-%m-%dT%H:%M:%f+00:00', 'now', '+30 seconds')"
 
 
@@ -145,7 +145,7 @@ def test_listed(tools, folder):
     tools.check("a page: registers with their values", rows["two"][1], f"SHA-256 PCRs 0, 10 differ.{values}")
     wanted = "The boot aggregate is not the log's; an event of the log extends PCR 10.event 25 extends PCR 10"
     tools.check("a page: what extends", rows["moved"][1], wanted)
-    tools.check("a page: unknown entries", rows["strange"][1], "Entries are of unknown files.unknown entries: 3, the first is entry 93")
+    tools.check("a page: unknown entries", rows["strange"][1], "Entries are for unknown files.unknown entries: 3, the first is entry 93")
     tools.check("a page: a cause", rows["cut"][:2], ["refused", f"{CUT.format(' at event 24')} refused: log fault 1 at event 24"])
     names = [[each.text for each in group.all("li")] for group in page.all("ul") if group.attributes.get("class") == "names"]
     times = dict(query(table, "SELECT machine, substr(replace(time, 'T', ' '), 1, 19) FROM verdicts"))
@@ -269,8 +269,8 @@ def test_prefixes(tools, folder):
     text, _ = state_of(page)
     told = "2 of these matches cover only the first entries of a list. Nothing confirms the entries after them."
     tools.check("a page: a prefix is told in its head", told in text, True)
-    rows = rows_below(page, "Matches of which only the first entries are confirmed")
-    tools.check("a page: how much of a list is confirmed", rows, [["cut", "97", "97", "bytes that are no entry"], ["grown", "99", "100", "1"]])
+    rows = rows_below(page, "Matches that confirm only the first entries")
+    tools.check("a page: how much of a list is confirmed", rows, [["cut", "97", "97", "bytes that are not an entry"], ["grown", "99", "100", "1"]])
     tools.check("the view of prefixes", query(table, "SELECT * FROM prefixes ORDER BY 1"), [("cut", 97, 97, 0), ("grown", 99, 100, 1)])
     del answers["grown"], answers["cut"]
     page = shown_page(tools, make_table(folder / "no prefixes.db", answers))
@@ -347,12 +347,12 @@ def test_states(tools, folder):
     match = {"a": answer_of("match", 1), "b": answer_of("match", 2)}
     differ = {**match, "b": answer_of("differ", 2, others=(4,))}
     old, to_come = "2026-01-01T00:00:00.000+00:00", "2999-01-01T00:00:00.000+00:00"
-    earlier = "Older than poll 2, the last that ended: 1 verdicts"
+    earlier = "1 verdict is older than poll 2, the last one that ended."
     calls, wanted = [], []
     for title, polls, edit, words, told, is_wanted in (
         ("all match", match, None, (), "All 2 machines match", True),
         ("all match by polls", [match, match], None, (), "All 2 machines match", True),
-        ("matches without a quote", match, None, (), "2 of these matches rest on unsigned PCR values.", True),
+        ("matches without a quote", match, None, (), "2 of these matches rest on unsigned PCR values: a compromised kernel can state any.", True),
         ("one differs", differ, None, (), "1 of 2 machines match", False),
         ("no verdict", {}, None, (), "No machine has a verdict", False),
         ("a poll that has not ended", [match, match], "DELETE FROM ends WHERE poll = 2", (), "Poll 2 has not ended", False),
@@ -423,7 +423,7 @@ def test_many(tools, folder):
     seconds = processor_seconds() - before
     names = re.findall(r"(?:<th scope=.row. class=.name.>|<li data-kind=.\w+.>)<bdi class=.text.>(host \d+)</bdi>", text)
     tools.check("20,000 machines: each is there once", (status, sorted(names)), (0, sorted(answers)))
-    tools.check("20,000 machines: the page says what it lists", f"Of 10000 machines {listed} are listed" in text, True)
+    tools.check("20,000 machines: the page says what it lists", f"{listed} of 10000 machines are listed" in text, True)
     tools.check("20,000 machines: the page is short, and soon there", (len(text) < 3_000_000, seconds < 20), (True, True))
 
 
@@ -442,7 +442,7 @@ def test_quoted_table(tools, folder):
     wanted = [["b", "50 min", "3", "1"], ["c", "90 s", "3", "1"], ["a", "4 s", "3", "1"], ["d", "1 s", "3", "1"]]
     tools.check("quotes: the oldest first", [row[:4] for row in rows], wanted)
     tools.check("quotes: keys", [row[4] for row in rows], [letter * 64 for letter in "eedf"])
-    unsigned = "2 of these matches rest on unsigned PCR values." in state_of(page)[0]
+    unsigned = "2 of these matches rest on unsigned PCR values:" in state_of(page)[0]
     found = ("4 of 6 machines were judged by a quote." in next(page.all("main")).text, unsigned)
     tools.check("quotes: how many machines have one", found, (True, True))
     facts = [each.text for each in next(page.all("main")).all("li") if "PCR" in each.text]
@@ -451,6 +451,9 @@ def test_quoted_table(tools, folder):
     tools.check("quotes: why a machine differs", rows_below(page, "Reasons")[0][2], wanted)
     told = [each.text for each in page.all("div") if each.text.startswith("One key signed for 2 machines: b, c")]
     tools.check("quotes: one key of two machines is told", len(told), 1)
+    found = [text.endswith(", unsigned") for text in named(page)]
+    tools.check("quotes: which matches have none", found, [False, False, False, True, True])
+    test_signed_look(tools, folder, answers)
     test_quote_ages(tools, folder, quote)
     alike = make_table(folder / "alike.db", {
         "a": answer_of("match", 7), "b": answer_of("match", 7), "c": answer_of("match", 8),
@@ -458,6 +461,15 @@ def test_quoted_table(tools, folder):
     })
     rows = rows_below(shown_page(tools, alike), "Machines with the same list")
     tools.check("machines with the same list are told", rows, [["2", "a, b", f"{7:064x}"]])
+
+
+def test_signed_look(tools, folder, answers):
+    """Where all machines match, the page has the colour of a match only if each match rests on a quote."""
+    signed = {name: answers[name] for name in "abc"}
+    for title, given, look in (("all", signed, "state match"), ("all but one", {**signed, "e": answers["e"]}, "state unquoted")):
+        page = shown_page(tools, make_table(folder / f"signed {title}.db", given))
+        looks = [each.attributes["class"] for each in page.all("div") if each.attributes.get("class", "").startswith("state")]
+        tools.check(f"quotes: how a page looks where {title} have one", looks, [look])
 
 
 def test_quote_ages(tools, folder, quote):

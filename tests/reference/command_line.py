@@ -11,7 +11,7 @@ KNOWN = "--known"
 OLD_KERNEL = "--old-kernel"
 EXPLAIN = "--explain"
 # An option of one letter, and its name.
-SHORT = {"0": "--null"}
+SHORT = {"0": "--null", "q": "--quiet"}
 
 
 class HelpAsked(Exception):
@@ -137,6 +137,10 @@ COMMANDS = {
         "--json": Option(FLAG, False),
     }),
 }
+
+
+for each in COMMANDS.values():
+    each.options["--quiet"] = Option(FLAG, False)
 
 
 def asks_for_help(word):

@@ -2,6 +2,7 @@
 
 use crate::commands::{COMMANDS, Command, FAULTS, FILES};
 use crate::devices::{PieceFiles, answered, arguments_of};
+use error_texts::sentence_of;
 use hints::hint_on_failure;
 use ima_agent::{Failure, FileProgress, NoProgress, Progress, exit_code, run, run_with_progress};
 use std::alloc::Global;
@@ -154,14 +155,26 @@ impl<R: FileSystem + Sync> Progress for SecondLook<'_, R> {
 
     fn explain(&self, alloc: Global, failure: Failure<'_>) {
         if let Ok(text) = hint_on_failure(self.runtime, alloc, failure) {
-            if !text.is_empty() {
+            if text.trim_end() != advice_of(failure) {
                 self.has_hint.store(true, Ordering::SeqCst);
             }
         }
     }
 }
 
-/// Files that cannot be read a second time give no hint, and the output is the same.
+/// What the table of errors advises about a fault, or nothing.
+fn advice_of(failure: Failure<'_>) -> &'static str {
+    let Failure::Fault { fault, .. } = failure else {
+        return "";
+    };
+    let head = fault.head();
+    match sentence_of(head.kind, head.number.unwrap_or(0)) {
+        Some(sentence) => sentence.action,
+        None => "",
+    }
+}
+
+/// Files that cannot be read a second time give no hint beside what the table of errors advises, and the output is the same.
 #[test]
 fn second_look_fails(rt: HostRuntime) -> Result<(), Fail> {
     let look = SecondLook {

@@ -1,5 +1,5 @@
 -- The commands as clap takes them, and the plan that comes from the arguments.
-use Rattle.std.specs.Prelude.{◌≡◌, Bool, true, false, Option, None, String, List, [], ◌∷◌, codes, Ok, Some, ℕ, ◌⊎◌, ◌||◌, ◌&&◌, ◌==◌, IsTrue, bytes_eq, map, option_map, unwrap_or, string_bytes}
+use Rattle.std.specs.Prelude.{◌≡◌, Bool, true, false, Option, None, String, List, [], ◌∷◌, codes, Ok, Some, ℕ, ◌⊎◌, ◌||◌, ◌&&◌, ◌==◌, IsTrue, bytes_eq, drop, find, length, map, nat_le, not, option_map, unwrap_or, string_bytes}
 use Rattle.std.specs.Global.{Global, Vec}
 use Rattle.std.specs.List.{fold, list_any, starts_with}
 use Rattle.std.specs.Option.{option_map_or}
@@ -108,6 +108,7 @@ table parsers = (
       ∷ flag (codes "hcrtm")
       ∷ flag (codes "explain")
       ∷ flag (codes "json")
+      ∷ short_flag 113 (codes "quiet")  -- (`-q`)
       ∷ required (codes "LOG")
       ∷ required (codes "LIST")
       ∷ required (codes "EXPECTED")
@@ -129,6 +130,7 @@ table parsers = (
           ∷ flag (codes "hcrtm")
           ∷ flag (codes "explain")
           ∷ flag (codes "json")
+          ∷ short_flag 113 (codes "quiet")
           ∷ required (codes "LOG")
           ∷ required (codes "LIST")
           ∷ required (codes "QUOTE")
@@ -141,6 +143,7 @@ table parsers = (
           ∷ several (codes "known")
           ∷ beside (flag (codes "explain"))
           ∷ flag (codes "json")
+          ∷ short_flag 113 (codes "quiet")
           ∷ required (codes "LIST")
           ∷ new_rule (codes "EXPECTED")
           ∷ [],
@@ -151,6 +154,7 @@ table parsers = (
           ∷ flag (codes "hcrtm")
           ∷ flag (codes "explain")
           ∷ flag (codes "json")
+          ∷ short_flag 113 (codes "quiet")
           ∷ required (codes "LOG")
           ∷ required (codes "LIST")
           ∷ required (codes "EXPECTED")
@@ -171,6 +175,7 @@ table parsers = (
           ∷ without_default (codes "before")
           ∷ flag (codes "hcrtm")
           ∷ flag (codes "json")
+          ∷ short_flag 113 (codes "quiet")
           ∷ required (codes "LOG")
           ∷ [],
     )
@@ -190,15 +195,16 @@ table parsers = (
           ∷ flag (codes "signature-checked")
           ∷ flag (codes "hcrtm")
           ∷ flag (codes "json")
+          ∷ short_flag 113 (codes "quiet")
           ∷ required (codes "LOG")
           ∷ [],
     )
-    ∷ (codes "show", flag (codes "json") ∷ required (codes "LIST") ∷ [])
-    ∷ (codes "registers", flag (codes "hcrtm") ∷ flag (codes "json") ∷ required (codes "LOG") ∷ [])
-    ∷ (codes "expected", without_default (codes "registers") ∷ flag (codes "json") ∷ required (codes "PCRREAD") ∷ [])
-    ∷ (codes "key", flag (codes "endorsement") ∷ optional (codes "print") (codes "all") parsers.parts ∷ flag (codes "json") ∷ required (codes "FILE") ∷ [])
-    ∷ (codes "list", required (codes "FILE") ∷ [])
-    ∷ (codes "log", required (codes "FILE") ∷ [])
+    ∷ (codes "show", flag (codes "json") ∷ short_flag 113 (codes "quiet") ∷ required (codes "LIST") ∷ [])
+    ∷ (codes "registers", flag (codes "hcrtm") ∷ flag (codes "json") ∷ short_flag 113 (codes "quiet") ∷ required (codes "LOG") ∷ [])
+    ∷ (codes "expected", without_default (codes "registers") ∷ flag (codes "json") ∷ short_flag 113 (codes "quiet") ∷ required (codes "PCRREAD") ∷ [])
+    ∷ (codes "key", flag (codes "endorsement") ∷ optional (codes "print") (codes "all") parsers.parts ∷ flag (codes "json") ∷ short_flag 113 (codes "quiet") ∷ required (codes "FILE") ∷ [])
+    ∷ (codes "list", short_flag 113 (codes "quiet") ∷ required (codes "FILE") ∷ [])
+    ∷ (codes "log", short_flag 113 (codes "quiet") ∷ required (codes "FILE") ∷ [])
     ∷ (
       codes "measure",
       optional (codes "alg") (codes "sha256") parsers.algs
@@ -210,6 +216,7 @@ table parsers = (
           ∷ beside (short_flag 48 (codes "null"))  -- (`-0`)
           ∷ flag (codes "hcrtm")
           ∷ flag (codes "json")
+          ∷ short_flag 113 (codes "quiet")
           ∷ required (codes "LOG")
           ∷ repeated (codes "FILE")
           ∷ [],
@@ -470,9 +477,33 @@ AreNotTaken arguments = (parsers : Parsers) × (takes (commands parsers) argumen
 abbrev pub begins_with : Text → List ℕ → Bool
 begins_with options word = starts_with (λ a b. a == b) word options
 
--- The argument requests help: it is `--help`, or short options of which `-h` is the first, or follows `-0`.
+-- Short options that ask for help.
+abbrev pub help_options : List (List ℕ)
+help_options = codes "-h" ∷ codes "-0h" ∷ codes "-qh" ∷ codes "-0qh" ∷ codes "-q0h" ∷ []
+
+-- The argument requests help: it is `--help`, or short options of which `h` is the first, or follows no others than `0` and `q`.
 abbrev pub asks_help : List ℕ → Bool
-asks_help word = bytes_eq word (codes "--help") || begins_with (codes "-h") word || begins_with (codes "-0h") word
+asks_help word = bytes_eq word (codes "--help") || list_any (λ options. begins_with options word) help_options
+
+-- The argument is `--quiet`, or short options of which one is `q`.
+abbrev pub is_quiet_word : List ℕ → Bool
+is_quiet_word word =
+    bytes_eq word (codes "--quiet")
+    || (begins_with (codes "-") word && (not (begins_with (codes "--") word) && list_any (λ letter. letter == 113) word))
+
+-- No option follows this argument.
+abbrev pub ends_options : List ℕ → Bool
+ends_options word = bytes_eq word (codes "--")
+
+-- The first of these arguments that is `--` or asks for silence asks for silence.
+abbrev pub asks_first : List (String Global) → Bool
+asks_first words =
+    option_map_or (λ word. is_quiet_word (string_bytes word))
+    (find (λ word. ends_options (string_bytes word) || is_quiet_word (string_bytes word)) words) false
+
+-- The arguments ask for silence: one after the command does, and no `--` comes before it.
+abbrev pub asks_quiet : List (String Global) → Bool
+asks_quiet arguments = nat_le 1 (length arguments) && asks_first (drop 1 arguments)
 
 -- Some argument requests help.
 abbrev pub HasHelpWord : List (String Global) → Type 0

@@ -41,6 +41,8 @@ pub(crate) enum ArgumentForm<'a> {
     Repeated,
     /// As a flag.
     Flag,
+    /// As a flag that has this letter, too.
+    ShortFlag(char),
     /// As a flag, and only beside this argument.
     FlagBeside(&'a str),
     /// As a flag that has this letter, too, and only beside this option.
@@ -93,23 +95,23 @@ const LIST: ArgumentRow<'static> = row!("LIST"; ArgumentForm::Required);
 /// A file of another form.
 const FILE: ArgumentRow<'static> = row!("FILE"; ArgumentForm::Required);
 
-/// Expected registers.
+/// Expected PCRs.
 const EXPECTED: ArgumentRow<'static> = row!("EXPECTED"; ArgumentForm::Required);
 
-/// Expected registers, or none.
+/// Expected PCRs, or none.
 const EXPECTED_IF_GIVEN: ArgumentRow<'static> = row!("EXPECTED"; ArgumentForm::Omittable);
 
-/// Expected registers that tell what of a log is confirmed.
+/// Expected PCRs, which say what part of a log is confirmed.
 const CONFIRMED: ArgumentRow<'static> = row!("expected"; ArgumentForm::Optional("EXPECTED"));
 
-/// A quote that tells what of a log is confirmed, with the list that it is also of, and what it must be.
+/// A quote, which says what part of a log is confirmed, the list that it also covers, and its nonce.
 const QUOTE: ArgumentRow<'static> = row!("quote"; ArgumentForm::Optional("QUOTE"));
 
 const QUOTED_LIST: ArgumentRow<'static> = row!("list"; ArgumentForm::Optional("LIST"));
 
 const NONCE: ArgumentRow<'static> = row!("nonce"; ArgumentForm::Optional("HEX"));
 
-/// Whether registers of the SHA-1 bank alone are taken.
+/// Whether PCRs that are required only in the SHA-1 bank are accepted.
 const SHA1: ArgumentRow<'static> = row!("sha1"; ArgumentForm::Flag);
 
 /// Whether the boot aggregate of an older kernel is taken.
@@ -135,17 +137,20 @@ const PREFIX: ArgumentRow<'static> = row!("prefix"; ArgumentForm::Flag);
 /// Where the checkpoint is saved.
 const SAVE: ArgumentRow<'static> = row!("save"; ArgumentForm::Optional("FILE"));
 
-/// The checkpoint to go on from.
+/// The checkpoint to continue from.
 const RESUME: ArgumentRow<'static> = row!("resume"; ArgumentForm::Optional("FILE"));
 
 /// Whether standard error says what to do next even if it is no terminal.
 const EXPLAIN: ArgumentRow<'static> = row!("explain"; ArgumentForm::Flag);
 
-/// Whether the H-CRTM's event tells where the machine started.
+/// Whether the H-CRTM's event says where the machine started.
 const HCRTM: ArgumentRow<'static> = row!("hcrtm"; ArgumentForm::Flag);
 
 /// Whether the result is printed as JSON.
 const JSON: ArgumentRow<'static> = row!("json"; ArgumentForm::Flag);
+
+/// Whether nothing is said on standard error.
+const QUIET: ArgumentRow<'static> = row!("quiet"; ArgumentForm::ShortFlag('q'));
 
 // The commands, in the order of the help. `table` of specs/Arguments.antt has the same.
 static COMMANDS: [CommandRow; 13] = [
@@ -153,8 +158,8 @@ static COMMANDS: [CommandRow; 13] = [
         name: "verify",
         about: with_abouts!(; verify),
         arguments: &[
-            REQUIRE, OLD_KERNEL, KNOWN, PREFIX, SAVE, RESUME, HCRTM, EXPLAIN, JSON, LOG, LIST,
-            EXPECTED,
+            REQUIRE, OLD_KERNEL, KNOWN, PREFIX, SAVE, RESUME, HCRTM, EXPLAIN, JSON, QUIET, LOG,
+            LIST, EXPECTED,
         ],
     },
     CommandRow {
@@ -175,6 +180,7 @@ static COMMANDS: [CommandRow; 13] = [
             HCRTM,
             EXPLAIN,
             JSON,
+            QUIET,
             LOG,
             LIST,
             row!("QUOTE"; ArgumentForm::Required),
@@ -189,6 +195,7 @@ static COMMANDS: [CommandRow; 13] = [
             KNOWN,
             row!("explain"; ArgumentForm::FlagBeside("EXPECTED")),
             JSON,
+            QUIET,
             LIST,
             EXPECTED_IF_GIVEN,
         ],
@@ -196,7 +203,7 @@ static COMMANDS: [CommandRow; 13] = [
     CommandRow {
         name: "locate",
         about: with_abouts!(; locate),
-        arguments: &[REQUIRE, HCRTM, EXPLAIN, JSON, LOG, LIST, EXPECTED],
+        arguments: &[REQUIRE, HCRTM, EXPLAIN, JSON, QUIET, LOG, LIST, EXPECTED],
     },
     CommandRow {
         name: "boot",
@@ -215,6 +222,7 @@ static COMMANDS: [CommandRow; 13] = [
             row!("before"; ArgumentForm::Optional("OLD_LOG")),
             HCRTM,
             JSON,
+            QUIET,
             LOG,
         ],
     },
@@ -236,18 +244,19 @@ static COMMANDS: [CommandRow; 13] = [
             SIGNATURE_CHECKED,
             HCRTM,
             JSON,
+            QUIET,
             LOG,
         ],
     },
     CommandRow {
         name: "show",
         about: with_abouts!(; show),
-        arguments: &[JSON, LIST],
+        arguments: &[JSON, QUIET, LIST],
     },
     CommandRow {
         name: "registers",
         about: with_abouts!(; registers),
-        arguments: &[HCRTM, JSON, LOG],
+        arguments: &[HCRTM, JSON, QUIET, LOG],
     },
     CommandRow {
         name: "expected",
@@ -255,6 +264,7 @@ static COMMANDS: [CommandRow; 13] = [
         arguments: &[
             row!("registers"; ArgumentForm::Optional("SELECTION")),
             JSON,
+            QUIET,
             row!("PCRREAD"; ArgumentForm::Required),
         ],
     },
@@ -265,18 +275,19 @@ static COMMANDS: [CommandRow; 13] = [
             row!("endorsement"; ArgumentForm::Flag),
             row!("print"; ArgumentForm::Defaulted("PART", "all", Values::Parsed(ValueParser::Names(&["all", "name", "pem"])))),
             JSON,
+            QUIET,
             FILE,
         ],
     },
     CommandRow {
         name: "list",
         about: with_abouts!(; list),
-        arguments: &[FILE],
+        arguments: &[QUIET, FILE],
     },
     CommandRow {
         name: "log",
         about: with_abouts!(; log),
-        arguments: &[FILE],
+        arguments: &[QUIET, FILE],
     },
     CommandRow {
         name: "measure",
@@ -291,6 +302,7 @@ static COMMANDS: [CommandRow; 13] = [
             row!("null"; ArgumentForm::ShortFlagBeside('0', "files-from")),
             HCRTM,
             JSON,
+            QUIET,
             LOG,
             row!("FILE"; ArgumentForm::Repeated),
         ],
@@ -321,7 +333,7 @@ pub(crate) fn all_commands<'a>(alloc: Global, known: KnownNames<'a>) -> Built<'a
     Ok(program)
 }
 
-// The rows of all commands. It is a function of its own, since a static that is borrowed makes a proof dear.
+// The rows of all commands. It is a function of its own, since a static that is borrowed makes a proof expensive.
 fn rows<'a>() -> &'a [CommandRow<'a>]
     ensures { (known : KnownNames) → (parsers : Parsers) × (fold (with_row known) program_app result.now ≡ commands parsers) }
 {
@@ -376,6 +388,9 @@ fn argument<'a>(
         ArgumentForm::Omittable => Ok(arg),
         ArgumentForm::Repeated => Ok(arg.action(ArgAction::Append).num_args(0..)),
         ArgumentForm::Flag => Ok(arg.long(row.id).action(ArgAction::SetTrue)),
+        ArgumentForm::ShortFlag(letter) => Ok(
+            arg.short(letter).long(row.id).action(ArgAction::SetTrue),
+        ),
         ArgumentForm::FlagBeside(argument) => arg
             .long(row.id)
             .action(ArgAction::SetTrue)

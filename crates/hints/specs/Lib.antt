@@ -1,4 +1,5 @@
 pub mod Escaping
+pub mod FaultLines
 pub mod Hcrtm
 pub mod Heads
 pub mod Hints

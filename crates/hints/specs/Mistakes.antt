@@ -2,7 +2,7 @@
 use Rattle.std.specs.Prelude.{ℕ, ◌&&◌, ◌||◌, not, nat_le, nat_eq, Bool, if◌then◌else◌, List, [], ◌∷◌, ◌++◌, length, codes, drop, Option, None, Some}
 use Rattle.std.specs.List.{list_any, starts_with}
 use Rattle.hints.specs.declared.wrong_input.Mistake.{Mistake}
-use Rattle.hints.specs.declared.wrong_input.Mistake.TheVariants.{Empty, NothingPrinted, ListForLog, OldLog, LogForList, TextForList, ListForText, PrintedForExpected}
+use Rattle.hints.specs.declared.wrong_input.Mistake.TheVariants.{Empty, NothingPrinted, ListForLog, OldLog, LogForList, TextForList, ListForText, PrintedForExpected, ExpectedForPrinted, Capitals, PemForArea}
 use Rattle.hints.specs.declared.wrong_input.ExpectedInput.{ExpectedInput}
 use Rattle.hints.specs.declared.wrong_input.ExpectedInput.TheVariants as wanted
 
@@ -41,23 +41,43 @@ printed_beginnings =
 abbrev pub is_printed : List ℕ → Bool
 is_printed head = list_any (starts_with nat_eq head) printed_beginnings
 
+-- A line of expected registers begins so.
+abbrev pub expected_beginnings : List (List ℕ)
+expected_beginnings = codes "sha1 " ∷ codes "sha256 " ∷ codes "sha384 " ∷ codes "sha512 " ∷ []
+
+abbrev pub capital_beginnings : List (List ℕ)
+capital_beginnings = codes "SHA1 " ∷ codes "SHA256 " ∷ codes "SHA384 " ∷ codes "SHA512 " ∷ []
+
+abbrev pub is_expected : List ℕ → Bool
+is_expected head = list_any (starts_with nat_eq head) expected_beginnings
+
+-- The same with a bank in capital letters, which no such line has.
+abbrev pub has_capitals : List ℕ → Bool
+has_capitals head = list_any (starts_with nat_eq head) capital_beginnings
+
+-- A PEM (RFC 7468).
+abbrev pub is_pem : List ℕ → Bool
+is_pem head = has_at head 0 (codes "-----BEGIN ")
+
 abbrev pub mistake_of : ExpectedInput → List ℕ → Option Mistake
 mistake_of wanted.Log head = if is_list head then Some ListForLog else if is_old_log head then Some OldLog else None
 mistake_of wanted.List head = if is_log head then Some LogForList else if is_text_list head then Some TextForList else None
 mistake_of wanted.Text head = if is_list head then Some ListForText else if is_log head then Some LogForList else None
 mistake_of wanted.Form head = if is_list head then Some ListForLog else None
-mistake_of wanted.Expected head = if is_printed head then Some PrintedForExpected else None
-mistake_of wanted.Printed head = None
+mistake_of wanted.Expected head = if is_printed head then Some PrintedForExpected else if has_capitals head then Some Capitals else None
+mistake_of wanted.Printed head = if is_expected head then Some ExpectedForPrinted else None
+mistake_of wanted.Area head = if is_pem head then Some PemForArea else None
 
-abbrev pub empty_for : ExpectedInput → Mistake
-empty_for wanted.Log = Empty
-empty_for wanted.List = Empty
-empty_for wanted.Text = Empty
-empty_for wanted.Form = Empty
-empty_for wanted.Expected = NothingPrinted
-empty_for wanted.Printed = NothingPrinted
+abbrev pub empty_for : ExpectedInput → Option Mistake
+empty_for wanted.Log = Some Empty
+empty_for wanted.List = Some Empty
+empty_for wanted.Text = Some Empty
+empty_for wanted.Form = Some Empty
+empty_for wanted.Expected = Some NothingPrinted
+empty_for wanted.Printed = Some NothingPrinted
+empty_for wanted.Area = None
 
 -- What an input with these first bytes is in place of what is wanted.
 abbrev pub mistake_in : ExpectedInput → List ℕ → Option Mistake
-mistake_in wanted [] = Some (empty_for wanted)
+mistake_in wanted [] = empty_for wanted
 mistake_in wanted head = mistake_of wanted head

@@ -79,6 +79,11 @@ expected_of (tasks.Events log shown confirmed_by) = expected_in confirmed_by
 expected_of (tasks.Boot log confirmed_by before) = expected_in confirmed_by
 expected_of task = None
 
+-- The public area that is shown.
+abbrev pub area_of : Task → Option (List ℕ)
+area_of (tasks.Answer (queries.Key area purpose part)) = opened_name (string_bytes area)
+area_of task = None
+
 -- ---- the refused input
 
 abbrev pub text_wanted : Task → ExpectedInput
@@ -97,4 +102,5 @@ refused_input (runs.Replay fault) task = option_map (λ name. as_wanted name wan
 refused_input (runs.ListText fault) task = option_map (λ name. as_wanted name wanted.Text) (converted_of task)
 refused_input (runs.LogForm fault) task = option_map (λ name. as_wanted name wanted.Form) (converted_of task)
 refused_input (runs.Expect fault) task = option_map (λ name. as_wanted name (text_wanted task)) (expected_of task)
+refused_input (runs.Key fault) task = option_map (λ name. as_wanted name wanted.Area) (area_of task)
 refused_input fault task = None

@@ -3,17 +3,17 @@
 ghost use Rattle.std.specs.Prelude.{◌≡◌, true, string_bytes, IfOk};
 ghost use Rattle.std.specs.List.{list_all};
 ghost use Rattle.hints.specs.Escaping.{is_shown};
+ghost use Rattle.hints.specs.FaultLines.{Explains, IsFaultLine};
 
 use crate::escapes::{escape_each, shown_line, shown_lines};
-use crate::task_inputs::{
-    STANDARD_INPUT, input_of, is_standard_input, known_name, quoting_of, signing_of,
-};
+use crate::fault_lines::{fault_line, row_of};
+use crate::selections::{REQUIRE, of_registers, of_requirement};
+use crate::task_inputs::{STANDARD_INPUT, input_of, is_standard_input, quoting_of, signing_of};
 use agent_inputs::RunFault;
 use agent_plans::{ComparisonOptions, Query, Quoting, Task};
 use attestations::{Policy, PolicyFault};
 use boot_verdict::{AggregateRule, Requirement};
 use command_line::refusal_of;
-use pcr_values::{Selection, SelectionFault};
 use run_progress::Failure;
 use std::alloc::{AllocError, Global};
 use std::fs::File;
@@ -24,14 +24,15 @@ use std::{fs, io};
 /// What is wrong with arguments that are within all other limits.
 const TOO_MANY_FILES: &str = "error: 2^32 files or more";
 
-/// The option that names what is required, as the help shows it.
-const REQUIRE: &str = "--require <SELECTION>";
+/// What is wrong with an argument that the program cannot take.
+const NOT_UTF8: &str = "an argument is not UTF-8: rename the file, or give a link to it";
 
-/// The option that names which registers are shown.
-const REGISTERS: &str = "--registers <SELECTION>";
+/// What is wrong if the output's device fails.
+const NOT_WRITTEN: &str =
+    "the output could not be written: the disk is full, or the program that reads it has exited";
 
-/// Why the run failed, in lines for a person: the input that is at fault, and what is wrong with it; for wrong arguments what `clap`
-/// says of them. Of an input that could not be read it asks once more, to learn the system's reason. An answer explains itself.
+/// Why the run failed, in lines for a person: the input that is at fault, and what is wrong with it, in the words of the table of errors; for wrong
+/// arguments what `clap` says of them. Of an input that could not be read it asks once more, to learn the system's reason. An answer explains itself.
 ///
 /// Fails if memory runs out, and if the run failed because it did.
 pub fn explanation<R: FileSystem + io::Input>(
@@ -39,20 +40,21 @@ pub fn explanation<R: FileSystem + io::Input>(
     alloc: Global,
     failure: Failure<'_>,
 ) -> Result<String, AllocError>
-    ensures { IfOk result (λ text. list_all is_shown (string_bytes text) ≡ true) }
+    ensures text { IfOk result (λ text. Explains failure.entry (string_bytes text)) }
+    ensures shown { IfOk result (λ text. list_all is_shown (string_bytes text) ≡ true) }
 {
     match failure {
         Failure::Fault { fault, task } => of_fault(rt, alloc, fault, task),
         Failure::Refused { fault, arguments } => of_refusal(alloc, fault, arguments),
         Failure::Arguments { reason } => match reason.kind() {
-            io::ErrorKind::InvalidData => shown_line(alloc, "an argument is not UTF-8"),
+            io::ErrorKind::InvalidData => shown_line(alloc, NOT_UTF8),
             _ => Err(AllocError),
         },
         Failure::Differs { .. } | Failure::Unsigned { .. } | Failure::Matches { .. } => {
             Ok(String::new(alloc))
         }
-        Failure::NothingCompared => Ok(String::new(alloc)),
-        Failure::Output => shown_line(alloc, "the output could not be written"),
+        Failure::NothingCompared | Failure::NothingToCompare { .. } => Ok(String::new(alloc)),
+        Failure::Output => shown_line(alloc, NOT_WRITTEN),
     }
 }
 
@@ -63,7 +65,8 @@ fn of_fault<R: FileSystem + io::Input>(
     fault: &RunFault,
     task: &Task,
 ) -> Result<String, AllocError>
-    ensures { IfOk result (λ text. list_all is_shown (string_bytes text) ≡ true) }
+    ensures text { IfOk result (λ text. IsFaultLine fault.now (string_bytes text)) }
+    ensures shown { IfOk result (λ text. list_all is_shown (string_bytes text) ≡ true) }
 {
     match fault {
         RunFault::Memory => Err(AllocError),
@@ -74,7 +77,7 @@ fn of_fault<R: FileSystem + io::Input>(
         RunFault::Read(name) if is_refused(rt, name, task) => {
             shown_line(
                 alloc,
-                &format!(in alloc; "cannot read {name}: it is no regular file")?,
+                &format!(in alloc; "cannot read {name}: it is not a regular file: copy it to one")?,
             )
         }
         RunFault::Read(name) => of_reason(alloc, name, open_reason(rt, name)),
@@ -83,14 +86,29 @@ fn of_fault<R: FileSystem + io::Input>(
             let fault = RunFault::TooLong(String::from_str(alloc, STANDARD_INPUT)?);
             shown_line(alloc, &format!(in alloc; "{fault}")?)
         }
-        RunFault::Known { file, fault } => match known_name(task, *file) {
-            Some(name) => shown_line(alloc, &format!(in alloc; "{name}: {fault}")?),
-            None => shown_line(alloc, &format!(in alloc; "known file {file}: {fault}")?),
-        },
-        _ => match input_of(task, fault) {
-            Some(input) => shown_line(alloc, &format!(in alloc; "{input}: {fault}")?),
-            None => shown_line(alloc, &format!(in alloc; "{fault}")?),
-        },
+        _ => of_row(alloc, input_of(task, fault), fault),
+    }
+}
+
+// The line of a fault of this input, if it is of one.
+fn of_row(alloc: Global, input: Option<&str>, fault: &RunFault) -> Result<String, AllocError>
+    ensures text { IfOk result (λ text. IsFaultLine fault.now (string_bytes text)) }
+    ensures shown { IfOk result (λ text. list_all is_shown (string_bytes text) ≡ true) }
+{
+    let head = fault.head();
+    match row_of(head) {
+        Some(sentence) => fault_line(alloc, input, head, sentence),
+        None => of_name(alloc, input, fault),
+    }
+}
+
+// The line of a fault that the table does not have: it names its file, or is of standard input.
+fn of_name(alloc: Global, input: Option<&str>, fault: &RunFault) -> Result<String, AllocError>
+    ensures { IfOk result (λ text. list_all is_shown (string_bytes text) ≡ true) }
+{
+    match input {
+        Some(input) => shown_line(alloc, &format!(in alloc; "{input}: {fault}")?),
+        None => shown_line(alloc, &format!(in alloc; "{fault}")?),
     }
 }
 
@@ -147,55 +165,6 @@ fn of_value_in(alloc: Global, task: &Task) -> Result<String, AllocError>
     shown_line(alloc, &text)
 }
 
-// Why this text spells no requirement.
-fn of_requirement(alloc: Global, text: &str) -> Result<String, AllocError> {
-    match Requirement::from_text(alloc, text.as_bytes()) {
-        Ok(_) => Err(AllocError),
-        Err(fault) => of_selection(alloc, text, REQUIRE, fault),
-    }
-}
-
-// Why this text selects no registers.
-fn of_registers(alloc: Global, text: &str) -> Result<String, AllocError> {
-    match Selection::from_text(alloc, text.as_bytes()) {
-        Ok(_) => Err(AllocError),
-        Err(fault) => of_selection(alloc, text, REGISTERS, fault),
-    }
-}
-
-// Why the text of this option is refused, with its first wrong part. Bytes are told from 1 on.
-fn of_selection(
-    alloc: Global,
-    text: &str,
-    option: &str,
-    fault: SelectionFault,
-) -> Result<String, AllocError> {
-    let SelectionFault::Malformed { at } = fault else {
-        return format!(in alloc; "error: invalid value '{text}' for '{option}': {fault}");
-    };
-    let part = part_at(text, at);
-    let place = at.saturating_add(1);
-    format!(in alloc;
-        "error: invalid value '{text}' for '{option}': at byte {place}, '{part}': {fault}"
-    )
-}
-
-// The part of a selection that begins at this byte.
-fn part_at(text: &str, at: usize) -> &str {
-    let Some((_, rest)) = text.split_at_checked(at) else {
-        return "";
-    };
-    before(before(rest, ","), "+")
-}
-
-// What comes before the first separator, or all.
-fn before<'a>(text: &'a str, separator: &str) -> &'a str {
-    match text.split_once(separator) {
-        Some((part, _)) => part,
-        None => text,
-    }
-}
-
 // Why a quote is not asked for so.
 fn of_policy(alloc: Global, quoting: &Quoting) -> Result<String, AllocError> {
     let text = &quoting.required;
@@ -210,11 +179,18 @@ fn of_policy(alloc: Global, quoting: &Quoting) -> Result<String, AllocError> {
     };
     match policy.fault() {
         None => Err(AllocError),
-        Some(fault @ PolicyFault::ShortNonce) => {
+        Some(PolicyFault::ShortNonce) => {
             let nonce = hex::encode(alloc, &quoting.nonce)?;
-            format!(in alloc; "error: invalid value '{nonce}' for '--nonce <HEX>': {fault}")
+            format!(in alloc;
+                "error: invalid value '{nonce}' for '--nonce <HEX>': a nonce has at least 16 bytes, which is 32 hexadecimal digits"
+            )
         }
-        Some(fault) => format!(in alloc; "error: invalid value '{text}' for '{REQUIRE}': {fault}"),
+        Some(PolicyFault::NotRequired { register }) => format!(in alloc;
+            "error: invalid value '{text}' for '{REQUIRE}': PCR {register} is not selected in any bank: a quote needs PCRs 0 to 10, as in sha256:0-10"
+        ),
+        Some(PolicyFault::OnlySha1 { register }) => format!(in alloc;
+            "error: invalid value '{text}' for '{REQUIRE}': PCR {register} is selected only in the SHA-1 bank, which can be forged: require another bank, or add --sha1"
+        ),
     }
 }
 

@@ -3,6 +3,7 @@
 
 mod escapes;
 mod explanations;
+mod fault_lines;
 mod hcrtm;
 mod hints;
 mod matches;
@@ -11,11 +12,12 @@ mod progress;
 mod reasons;
 mod rejudge;
 mod reread;
+mod selections;
 mod signing;
 mod task_inputs;
 mod wrong_input;
 
 pub use escapes::escape;
 pub use explanations::explanation;
-pub use progress::{SystemProgress, Terminals};
+pub use progress::{Audience, SystemProgress};
 pub use rejudge::{hint_from_files, hint_on_failure};

@@ -2,8 +2,10 @@
 
 use crate::explanations::explanation;
 use crate::rejudge::hint_on_failure;
+use agent_inputs::FaultKind;
+use error_texts::sentence_of;
 use measuring::FileProgress;
-use run_progress::{Failure, Progress};
+use run_progress::{Failure, Listener, Progress};
 use std::alloc::Global;
 use std::io;
 use std::rt::{Clock, Files as FileSystem};
@@ -12,15 +14,15 @@ use std::time::Instant;
 
 /// What a person is told who has given no arguments.
 const WAITING: &str =
-    "reading a firmware event log in hexadecimal from standard input; ima-agent --help tells the commands\n";
+    "reading a firmware event log in hexadecimal from standard input; ima-agent --help lists the commands\n";
 
-/// Which standard streams are terminals.
+/// Who is at the standard streams.
 #[derive(Clone, Copy)]
-pub struct Terminals {
-    /// Whether standard input is one.
-    pub input: bool,
-    /// Whether standard error is one.
-    pub error: bool,
+pub struct Audience {
+    /// Whether standard input is a terminal.
+    pub types: bool,
+    /// Who reads standard error.
+    pub listener: Listener,
 }
 
 /// How many milliseconds pass before the first number is shown.
@@ -30,14 +32,13 @@ const INTERVAL: u64 = 100;
 
 /// Shows the progress on standard error, if that is a terminal: `123 of 10000 files`, after more than a second and at most ten
 /// times a second, written over what was shown before. The line is erased when the measurement ends. Of a run that failed it shows
-/// the [`explanation`] there, and of it or an answer the [`hint`](hint_on_failure), if there is one; these also where there is no terminal, if the
-/// arguments ask for it. Before standard input is read, if that is a terminal, it says so. How much padding was cut it always says. If the clock or
-/// standard error fails, nothing is shown; this is no fault.
+/// the [`explanation`] there, and of it or an answer the [`hint`](hint_on_failure), if there is one, as far as they are for its listener
+/// ([`Failure::is_said`]). Before standard input is read, if that is a terminal, too, it says so. How much padding was cut it says to all but nobody.
+/// If the clock or standard error fails, nothing is shown; this is no fault.
 #[derive(Drop)]
 pub struct SystemProgress<'a, R> {
     runtime: &'a R,
-    /// Which standard streams are terminals.
-    terminals: Terminals,
+    audience: Audience,
     /// When the measurement began; `None` if no number is to be shown, or the clock failed.
     began: Option<Instant>,
     /// After how many milliseconds the next number may be shown; greater than `DELAY` once one was shown.
@@ -45,16 +46,15 @@ pub struct SystemProgress<'a, R> {
 }
 
 impl<'a, R: Eprint + Clock> SystemProgress<'a, R> {
-    /// Shows the progress of a measurement that begins now, where these streams are terminals.
-    pub fn new(runtime: &'a R, terminals: Terminals) -> Self {
-        let began = if terminals.error {
-            Instant::now(runtime).ok()
-        } else {
-            None
+    /// Shows the progress of a measurement that begins now to this audience.
+    pub fn new(runtime: &'a R, audience: Audience) -> Self {
+        let began = match audience.listener {
+            Listener::Terminal => Instant::now(runtime).ok(),
+            Listener::Elsewhere | Listener::Nobody => None,
         };
         SystemProgress {
             runtime,
-            terminals,
+            audience,
             began,
             due: AtomicU64::new(DELAY),
         }
@@ -96,27 +96,36 @@ impl<R: Eprint + Clock + Sync> FileProgress for SystemProgress<'_, R> {
 
 impl<R: Eprint + Clock + FileSystem + io::Input + Sync> Progress for SystemProgress<'_, R> {
     fn waits(&self) {
-        if self.terminals.input && self.terminals.error {
+        if self.audience.types && self.audience.listener == Listener::Terminal {
             let _ = eprint!(self.runtime; "{WAITING}");
         }
     }
 
     fn cuts(&self, bytes: usize) {
-        if bytes != 0 {
-            let _ = eprint!(self.runtime; "padding cut: {bytes} bytes behind the last event\n");
+        if bytes != 0 && self.audience.listener != Listener::Nobody {
+            let _ = eprint!(self.runtime; "padding cut: {bytes} bytes after the last event\n");
         }
     }
 
     fn explain(&self, alloc: Global, failure: Failure<'_>) {
-        if !failure.is_said(self.terminals.error) {
+        if !failure.is_said(self.audience.listener) {
             return;
         }
-        let _ = match explanation(self.runtime, alloc, failure) {
-            Ok(text) => eprint!(self.runtime; "{text}"),
-            Err(_) => eprint!(self.runtime; "out of memory\n"),
-        };
+        match explanation(self.runtime, alloc, failure) {
+            Ok(text) => {
+                let _ = eprint!(self.runtime; "{text}");
+            }
+            Err(_) => return explain_memory(self.runtime),
+        }
         if let Ok(text) = hint_on_failure(self.runtime, alloc, failure) {
             let _ = eprint!(self.runtime; "{text}");
         }
+    }
+}
+
+// Says that memory ran out, which takes none.
+fn explain_memory<R: Eprint>(rt: &R) {
+    if let Some(sentence) = sentence_of(FaultKind::Memory, 0) {
+        let _ = eprint!(rt; "{}\n{}\n", sentence.wrong, sentence.action);
     }
 }

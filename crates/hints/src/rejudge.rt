@@ -5,9 +5,12 @@ ghost use Rattle.std.specs.List.{list_all};
 ghost use Rattle.agent_inputs.specs.Loading.{unknown};
 ghost use Rattle.judging.specs.Requests.{requested_of};
 ghost use Rattle.hints.specs.Escaping.{is_shown};
+ghost use Rattle.hints.specs.Refused.{quoting_of};
+ghost use Rattle.agent_inputs.specs.declared.fault.RunFault.TheVariants.{Key};
 ghost use Rattle.hints.specs.Hints.{IsGrown, IsNotGrown, IsNotSeen, IsSeen};
-ghost use Rattle.hints.specs.Saying.{TellsFault, TellsMistake, TellsNext, TellsOf, TellsSeen};
+ghost use Rattle.hints.specs.Saying.{TellsFault, TellsKey, TellsMistake, TellsNext, TellsOf, TellsSeen};
 
+use crate::fault_lines::advice_of;
 use crate::hcrtm::left_by_hcrtm;
 use crate::hints::{hcrtm_hint, nothing_compared_hint, rendered_hints, rendered_mistake};
 use crate::matches::match_hint;
@@ -23,6 +26,7 @@ use judging::{Request, answer_request, known_inputs, on_prefix, request_of};
 use run_progress::Failure;
 use std::alloc::{AllocError, Global};
 use std::rt::Files as FileSystem;
+use tpm_keys::KeyFault;
 
 /// What [`hint_from_files`] says of the files of a runtime, if they are regular files: others are not read again.
 pub fn hint_on_failure<R: FileSystem>(
@@ -37,8 +41,9 @@ pub fn hint_on_failure<R: FileSystem>(
 }
 
 /// What a person may do next, in lines: after an answer that something differs, by a second look at the inputs; where nobody looked at a quote's
-/// signature, or it or its key is refused; after a match with which nothing was compared, or a register was required in the SHA-1 bank alone; and where
-/// another input is refused that is not what it should be, by its first bytes. No text where nothing helps, or the inputs cannot be read again. It changes no input.
+/// signature, or it or its key is refused; after a match with which nothing was compared, or a register was required in the SHA-1 bank alone; and after
+/// another error: that an input is not what it should be, by its first bytes, or what the table of errors advises. No text where nothing helps, or the
+/// inputs cannot be read again. It changes no input.
 ///
 /// Fails if memory runs out.
 pub fn hint_from_files<F: AgentFiles>(
@@ -54,7 +59,7 @@ pub fn hint_from_files<F: AgentFiles>(
         Failure::Differs { task } => on_difference(alloc, files, task),
         Failure::Unsigned { .. } => unsigned_hint(alloc),
         Failure::Matches { task } => match_hint(alloc, task),
-        Failure::NothingCompared => nothing_compared_hint(alloc),
+        Failure::NothingCompared | Failure::NothingToCompare { .. } => nothing_compared_hint(alloc),
         Failure::Fault { fault, task } => on_fault(alloc, files, fault, task),
         _ => Ok(String::new(alloc)),
     }
@@ -142,12 +147,31 @@ fn on_fault<F: AgentFiles>(
 {
     match fault {
         RunFault::Signature(refusal) => refusal_hint(alloc, *refusal),
-        RunFault::Key(fault) => key_hint(alloc, *fault, quoting_of(task)),
+        RunFault::Key(key) => on_key(alloc, files, fault, *key, task),
         _ => on_mistake(alloc, files, fault, task),
     }
 }
 
-// Where an input is refused that may be another by mistake.
+// Where a key is refused.
+fn on_key<F: AgentFiles>(
+    alloc: Global,
+    files: &mut F,
+    fault: &RunFault,
+    key: KeyFault,
+    task: &Task,
+) -> Result<String, AllocError>
+    requires { fault.now ≡ Key key }
+    ensures told { IfOk result (λ text. TellsKey (F.inputs files.old) key task.now (quoting_of task.now) (string_bytes text)) }
+    ensures shown { IfOk result (λ text. list_all is_shown (string_bytes text) ≡ true) }
+    ensures replaced { F.replaced files.new ≡ F.replaced files.old }
+{
+    match quoting_of(task) {
+        None => on_mistake(alloc, files, fault, task),
+        Some(_) => key_hint(alloc, key),
+    }
+}
+
+// Where an input is refused that may be another by mistake; if it is none that can be told, what the table advises.
 fn on_mistake<F: AgentFiles>(
     alloc: Global,
     files: &mut F,
@@ -159,13 +183,13 @@ fn on_mistake<F: AgentFiles>(
     ensures replaced { F.replaced files.new ≡ F.replaced files.old }
 {
     let Some((input, wanted)) = refused_input(task, fault) else {
-        return Ok(String::new(alloc));
+        return advice_of(alloc, fault);
     };
     let Some(head) = head_of(alloc, files, input)? else {
-        return Ok(String::new(alloc));
+        return advice_of(alloc, fault);
     };
     match mistake_in(wanted, &head) {
-        None => Ok(String::new(alloc)),
+        None => advice_of(alloc, fault),
         Some(mistake) => rendered_mistake(alloc, input, mistake),
     }
 }

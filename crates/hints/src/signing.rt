@@ -1,12 +1,11 @@
 //! What to do where nobody looked at a quote's signature, or key or signature are refused.
 
-ghost use Rattle.std.specs.Prelude.{◌≡◌, ◌++◌, ◌∷◌, [], true, option_map, string_bytes, IfOk};
+ghost use Rattle.std.specs.Prelude.{◌≡◌, ◌++◌, ◌∷◌, [], true, string_bytes, IfOk};
 ghost use Rattle.std.specs.List.{list_all};
 ghost use Rattle.hints.specs.Escaping.{escape, is_shown};
-ghost use Rattle.hints.specs.Signing.{is_no_area, key_line, key_words, refusal_words, unsigned_words};
+ghost use Rattle.hints.specs.Signing.{is_no_area, key_words, refusal_words, unsigned_words};
 
 use crate::escapes::shown_line;
-use agent_plans::Quoting;
 use signed_messages::SignatureRefusal;
 use std::alloc::{AllocError, Global};
 use tpm_keys::KeyFault;
@@ -15,12 +14,12 @@ use tpm_keys::KeyFault;
 const FIRST_LACK: u32 = 11;
 
 const UNSIGNED: &str =
-    "nobody looked at the signature of QUOTE: give --key and --signature to have it verified";
+    "the signature of QUOTE was not checked: add --key and --signature to verify it";
 
 const NO_AREA: &str =
-    "KEY is not a public area of a kind that is taken: give NAME.pub of ima-enroll, or PEM as ima-agent key --print pem prints it";
+    "KEY is not a supported public area: give NAME.pub from ima-enroll, or PEM as ima-agent key --print pem prints it";
 
-const NO_ATTESTATION_KEY: &str = "KEY is not a key that attests: give NAME.pub of ima-enroll";
+const NO_ATTESTATION_KEY: &str = "KEY is not an attestation key: give NAME.pub from ima-enroll";
 
 /// What to do where nothing was said of the signature.
 pub(crate) fn unsigned_hint(alloc: Global) -> Result<String, AllocError>
@@ -44,30 +43,23 @@ fn refusal_words(refusal: SignatureRefusal) -> &'static str
 {
     match refusal {
         SignatureRefusal::Bytes(_) =>
-            "SIG must be what tpm2_quote -s wrote with QUOTE, plain or not, and KEY of its kind and size",
+            "SIG must be what tpm2_quote -s wrote with QUOTE, plain or not; KEY must be the key that made it",
         SignatureRefusal::OtherScheme | SignatureRefusal::OtherHash =>
-            "SIG is not by a scheme and hash that KEY takes: it is by another key, or was changed",
+            "KEY does not allow the scheme or the hash of SIG: SIG was made by another key or changed",
         SignatureRefusal::NotSigned =>
-            "SIG is by another key or of another quote, or one of QUOTE, SIG and KEY was changed",
+            "SIG is from another key or another quote, or one of QUOTE, SIG and KEY was changed",
         SignatureRefusal::OtherKey =>
-            "signatures by such keys are not verified here: verify SIG yourself, then call ima-agent with --signature-checked in place of both",
-        SignatureRefusal::OtherPem => "give the key's public area: NAME.pub of ima-enroll",
+            "ima-agent cannot verify signatures by such keys: verify SIG yourself, then give --signature-checked instead of --key and --signature",
+        SignatureRefusal::OtherPem => "give the key's public area: NAME.pub from ima-enroll",
     }
 }
 
-/// What to do about a key that is refused, if it is that of a quote: else no text.
-pub(crate) fn key_hint(
-    alloc: Global,
-    fault: KeyFault,
-    quoting: Option<&Quoting>,
-) -> Result<String, AllocError>
-    ensures line { IfOk result (λ text. string_bytes text ≡ key_line fault (option_map (λ quoting. quoting.now) quoting.entry)) }
+/// What to do about a quote's key that is refused.
+pub(crate) fn key_hint(alloc: Global, fault: KeyFault) -> Result<String, AllocError>
+    ensures line { IfOk result (λ text. string_bytes text ≡ escape (key_words fault) ++ 10 ∷ []) }
     ensures shown { IfOk result (λ text. list_all is_shown (string_bytes text) ≡ true) }
 {
-    match quoting {
-        None => Ok(String::new(alloc)),
-        Some(_) => shown_line(alloc, key_words(fault)),
-    }
+    shown_line(alloc, key_words(fault))
 }
 
 // The words of that.

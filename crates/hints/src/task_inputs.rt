@@ -2,7 +2,7 @@
 
 ghost use Rattle.std.specs.Prelude.{◌≡◌, option_map};
 ghost use Rattle.judging.specs.Requests.{location_of};
-ghost use Rattle.hints.specs.Refused.{as_wanted, converted_of, expected_of, compared_log, judged_log, list_of, log_of, quoting_of, refused_input, replayed_log, text_wanted};
+ghost use Rattle.hints.specs.Refused.{area_of, as_wanted, converted_of, expected_of, compared_log, judged_log, list_of, log_of, quoting_of, refused_input, replayed_log, text_wanted};
 
 use crate::wrong_input::ExpectedInput;
 use agent_inputs::{RunFault, opened_name};
@@ -59,6 +59,7 @@ pub(crate) fn input_of<'a>(task: &'a Task, fault: &RunFault) -> Option<&'a str> 
             ComparisonKind::Verdict { resume, .. } => resume.as_deref(),
             _ => None,
         },
+        (RunFault::Known { file, .. }, _) => known_name(task, *file),
         (RunFault::Outcome { job, .. }, Task::Measure(Measurement { files, .. })) => {
             let name = files.get(*job as usize)?;
             Some(name.as_str())
@@ -149,6 +150,7 @@ pub(crate) fn refused_input<'a>(
         RunFault::ListText(_) => wanted_at(converted_of(task), ExpectedInput::Text),
         RunFault::LogForm(_) => wanted_at(converted_of(task), ExpectedInput::Form),
         RunFault::Expect(_) => wanted_at(expected_of(task), text_wanted(task)),
+        RunFault::Key(_) => wanted_at(area_of(task), ExpectedInput::Area),
         _ => None,
     }
 }
@@ -266,6 +268,16 @@ fn expected_of(task: &Task) -> Option<&str>
             confirmed_by: ConfirmedBy::Expected(name),
             ..
         } => opened_name(name),
+        _ => None,
+    }
+}
+
+// The public area that a task shows. Standard input is none.
+fn area_of(task: &Task) -> Option<&str>
+    ensures { option_map (λ name. name.now) result ≡ area_of task.now }
+{
+    match task {
+        Task::Answer(Query::Key { area, .. }) => opened_name(area),
         _ => None,
     }
 }

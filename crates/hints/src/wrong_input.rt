@@ -2,7 +2,7 @@
 
 ghost use Rattle.std.specs.Prelude.{◌≡◌, ◌≤◌, length, nat_eq, drop};
 ghost use Rattle.std.specs.List.{list_any, starts_with};
-ghost use Rattle.hints.specs.Mistakes.{has_at, is_list, is_log, is_old_event, is_old_log, is_printed, is_text_list, mistake_in, printed_beginnings};
+ghost use Rattle.hints.specs.Mistakes.{expected_beginnings, capital_beginnings, has_at, has_capitals, is_expected, is_list, is_log, is_old_event, is_old_log, is_pem, is_printed, is_text_list, mistake_in, printed_beginnings};
 
 /// What an input should be that is refused.
 #[derive(Clone, Copy, PartialEq, Eq)]
@@ -19,6 +19,8 @@ pub(crate) enum ExpectedInput {
     Expected,
     /// What tpm2-tools printed.
     Printed,
+    /// The public area of a key.
+    Area,
 }
 
 /// What such an input is.
@@ -40,12 +42,24 @@ pub(crate) enum Mistake {
     ListForText,
     /// What tpm2-tools printed, not expected registers.
     PrintedForExpected,
+    /// Expected registers, not what tpm2-tools printed.
+    ExpectedForPrinted,
+    /// Expected registers with banks in capital letters.
+    Capitals,
+    /// A PEM, not a public area.
+    PemForArea,
 }
 
 /// What begins a text that tpm2_pcrread or tpm2_checkquote printed, and no text of expected registers.
 const PRINTED: [&[u8]; 7] = [
     b"  sha", b"  sm3", b"pcrs:", b"sha1:", b"sha256:", b"sha384:", b"sha512:",
 ];
+
+/// What begins a text of expected registers.
+const EXPECTED: [&[u8]; 4] = [b"sha1 ", b"sha256 ", b"sha384 ", b"sha512 "];
+
+/// What begins one with banks in capital letters.
+const EXPECTED_IN_CAPITALS: [&[u8]; 4] = [b"SHA1 ", b"SHA256 ", b"SHA384 ", b"SHA512 "];
 
 /// What an input with these first bytes is in place of what is wanted, if that can be told.
 pub(crate) fn mistake_in(wanted: ExpectedInput, head: &[u8]) -> Option<Mistake>
@@ -54,6 +68,7 @@ pub(crate) fn mistake_in(wanted: ExpectedInput, head: &[u8]) -> Option<Mistake>
     match wanted {
         ExpectedInput::Log | ExpectedInput::List | ExpectedInput::Text | ExpectedInput::Form
             if head.is_empty() => Some(Mistake::Empty),
+        ExpectedInput::Area => is_pem(head).then_some(Mistake::PemForArea),
         ExpectedInput::Expected | ExpectedInput::Printed if head.is_empty() => Some(
             Mistake::NothingPrinted,
         ),
@@ -63,6 +78,8 @@ pub(crate) fn mistake_in(wanted: ExpectedInput, head: &[u8]) -> Option<Mistake>
         ExpectedInput::List | ExpectedInput::Text if is_log(head) => Some(Mistake::LogForList),
         ExpectedInput::List if is_text_list(head) => Some(Mistake::TextForList),
         ExpectedInput::Expected if is_printed(head) => Some(Mistake::PrintedForExpected),
+        ExpectedInput::Expected if has_capitals(head) => Some(Mistake::Capitals),
+        ExpectedInput::Printed if is_expected(head) => Some(Mistake::ExpectedForPrinted),
         _ => None,
     }
 }
@@ -114,6 +131,27 @@ fn is_printed(head: &[u8]) -> bool
     ensures { result ≡ is_printed head.now }
 {
     begins_any(&PRINTED, head)
+}
+
+// Whether expected registers begin so.
+fn is_expected(head: &[u8]) -> bool
+    ensures { result ≡ is_expected head.now }
+{
+    begins_any(&EXPECTED, head)
+}
+
+// Whether expected registers begin so, but with a bank in capital letters.
+fn has_capitals(head: &[u8]) -> bool
+    ensures { result ≡ has_capitals head.now }
+{
+    begins_any(&EXPECTED_IN_CAPITALS, head)
+}
+
+// Whether a PEM begins so.
+fn is_pem(head: &[u8]) -> bool
+    ensures { result ≡ is_pem head.now }
+{
+    has_at(head, 0, b"-----BEGIN ")
 }
 
 // Whether the bytes begin with one of these.

@@ -27,7 +27,7 @@ pub use boot_verdict::{
     Aggregate, Located, Position, Report, Requirement, Row, State, VerifyFault, all_found,
     list_start, locate, locate_from, replay_from, required_found, verify, verify_from,
 };
-pub use command_line::arguments_after_name;
+pub use command_line::{arguments_after_name, asks_quiet};
 pub use event_lines::write_events;
 pub use measuring::FileProgress;
 pub use pcr_values::{
@@ -36,4 +36,4 @@ pub use pcr_values::{
 };
 pub use program::{exit_code, read_words, run, run_with_progress};
 pub use rendering::{Output, json_fault_line, json_memory_line, status_of, write_fault};
-pub use run_progress::{Failure, NoProgress, Progress};
+pub use run_progress::{Failure, Listener, NoProgress, Progress};

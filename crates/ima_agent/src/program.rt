@@ -282,14 +282,15 @@ fn send_answer<F: AgentFiles, S: Sink, P: Progress>(
     ensures { Streams form (IsOutcome (F.inputs files.old) (tasks.Answer question.now) form (F.replaced files.old) (F.replaced files.new)) (S.state sink.old) (S.state sink.new) result }
 {
     match answer_for(alloc, question, form, files) {
-        Ok((output, summary)) => send_told(alloc, output, &summary, sink, progress),
+        Ok((output, summary)) => send_told(alloc, question, output, &summary, sink, progress),
         Err(fault) => send_output(Err(fault), sink),
     }
 }
 
-// Sends an output, and tells if it is a match with which nothing was compared.
+// Sends the output of the answer to a question, and tells if registers could be expected and none is.
 fn send_told<S: Sink, P: Progress>(
     alloc: Global,
+    question: &Query,
     output: Output,
     summary: &Summary,
     sink: &mut S,
@@ -298,10 +299,19 @@ fn send_told<S: Sink, P: Progress>(
     ensures { SendsOutput (Ok output) (S.state sink.old) (S.state sink.new) result }
 {
     let sent = send_output(Ok(output), sink);
-    if sent.is_ok() && summary.compares_nothing() {
-        progress.explain(alloc, Failure::NothingCompared);
+    if sent.is_ok() {
+        tell_compared(alloc, question, summary, progress);
     }
     sent
+}
+
+// Tells if registers could be expected and none is.
+fn tell_compared<P: Progress>(alloc: Global, question: &Query, summary: &Summary, progress: &P) {
+    if summary.compares_nothing() {
+        progress.explain(alloc, Failure::NothingCompared);
+    } else if summary.compared == 0 && matches!(question, Query::Comparison(_)) {
+        progress.explain(alloc, Failure::NothingToCompare { question });
+    }
 }
 
 // The output of the answer to a question, and its summary.

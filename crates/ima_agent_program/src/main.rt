@@ -1,8 +1,8 @@
 //! The program `ima-agent`, which is `ima_agent::exit_code` over the system's files and streams.
 #![tactic(auto)]
 
-use hints::{SystemProgress, Terminals};
-use ima_agent::{SystemFiles, WriteSink, arguments_after_name, exit_code};
+use hints::{Audience, SystemProgress};
+use ima_agent::{Listener, SystemFiles, WriteSink, arguments_after_name, asks_quiet, exit_code};
 use std::io::IsTerminal;
 use std::process::ExitCode;
 use std::rt::Env;
@@ -13,17 +13,26 @@ fn arguments(rt: &(impl Env + AllocGlobal)) -> io::Result<Vec<String>> {
     Ok(arguments_after_name(rt.alloc(), env::args(rt)?)?)
 }
 
+// Whether these arguments ask for silence.
+fn are_quiet(arguments: &io::Result<Vec<String>>) -> bool {
+    match arguments {
+        Ok(arguments) => asks_quiet(arguments),
+        Err(_) => false,
+    }
+}
+
 fn main(rt: HostRuntime) -> ExitCode {
+    let arguments = arguments(&rt);
     let mut output = WriteSink::new(rt.stdout());
-    let terminals = Terminals {
-        input: rt.stdin().is_terminal(),
-        error: rt.stderr().is_terminal(),
+    let audience = Audience {
+        types: rt.stdin().is_terminal(),
+        listener: Listener::of(rt.stderr().is_terminal(), are_quiet(&arguments)),
     };
-    let progress = SystemProgress::new(&rt, terminals);
+    let progress = SystemProgress::new(&rt, audience);
     exit_code(
         &rt,
         rt.alloc(),
-        arguments(&rt),
+        arguments,
         &mut SystemFiles::new(&rt),
         &mut output,
         &progress,

@@ -3,4 +3,4 @@
 
 mod progress;
 
-pub use progress::{Failure, NoProgress, Progress};
+pub use progress::{Failure, Listener, NoProgress, Progress};

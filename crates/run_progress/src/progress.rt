@@ -1,7 +1,7 @@
 //! Who is told of the progress of a measurement, and of failures.
 
 ghost use Rattle.std.specs.Prelude.{◌≡◌};
-ghost use Rattle.run_progress.specs.Failures.{is_asked_for, is_explained, is_said};
+ghost use Rattle.run_progress.specs.Failures.{asks_why, is_explained, is_said, is_said_elsewhere, listener_of};
 
 use agent_inputs::RunFault;
 use agent_plans::{Query, Task};
@@ -46,33 +46,68 @@ pub enum Failure<'a> {
         /// What was to be done.
         task: &'a Task,
     },
-    /// The answer to a task: it is a match, and no register was compared.
+    /// The answer to a question: it is a match, and no register was compared.
     NothingCompared,
+    /// The answer to a question: something differs, and no register was compared. `Differs` follows.
+    NothingToCompare {
+        /// What was asked.
+        question: &'a Query,
+    },
     /// A part of the output, or nothing.
     Output,
 }
 
-impl Failure<'_> {
-    /// Whether it is said: standard error is a terminal, or the arguments ask for it. That nothing was compared is said in any case, and what a match
-    /// is worth on a terminal alone.
-    pub fn is_said(self, is_terminal: bool) -> bool
-        ensures { result ≡ is_said is_terminal self.entry }
+/// Who reads standard error.
+#[derive(Clone, Copy, PartialEq, Eq)]
+pub enum Listener {
+    /// A person at a terminal.
+    Terminal,
+    /// Whoever reads a file, a pipe or a journal.
+    Elsewhere,
+    /// Nobody: the arguments ask for silence.
+    Nobody,
+}
+
+impl Listener {
+    /// Who reads it, where it is a terminal or not, and the arguments ask for silence or not.
+    pub fn of(is_terminal: bool, is_quiet: bool) -> Self
+        ensures { result ≡ listener_of is_terminal is_quiet }
     {
-        is_terminal || self.is_asked_for()
+        match (is_quiet, is_terminal) {
+            (true, _) => Listener::Nobody,
+            (false, true) => Listener::Terminal,
+            (false, false) => Listener::Elsewhere,
+        }
+    }
+}
+
+impl Failure<'_> {
+    /// Whether it is said to this listener. Why a run failed is said to all but nobody, and so is that nothing was compared; what to do about a
+    /// difference at a terminal, or if the arguments ask for it; what a match is worth only at a terminal.
+    pub fn is_said(self, listener: Listener) -> bool
+        ensures { result ≡ is_said listener self.entry }
+    {
+        match listener {
+            Listener::Terminal => !matches!(self, Failure::NothingToCompare { .. }),
+            Listener::Elsewhere => self.is_said_elsewhere(),
+            Listener::Nobody => false,
+        }
     }
 
     // Whether it is said where there is no terminal.
-    fn is_asked_for(self) -> bool
-        ensures { result ≡ is_asked_for self.entry }
+    fn is_said_elsewhere(self) -> bool
+        ensures { result ≡ is_said_elsewhere self.entry }
     {
         match self {
-            Failure::Fault { task, .. } | Failure::Differs { task } | Failure::Unsigned { task } =>
-                is_explained(task),
-            Failure::NothingCompared => true,
-            Failure::Matches { .. }
+            Failure::Differs { task } => is_explained(task),
+            Failure::NothingToCompare { question } => !asks_why(question),
+            Failure::Matches { .. } => false,
+            Failure::Fault { .. }
             | Failure::Refused { .. }
             | Failure::Arguments { .. }
-            | Failure::Output => false,
+            | Failure::Unsigned { .. }
+            | Failure::NothingCompared
+            | Failure::Output => true,
         }
     }
 }
@@ -82,8 +117,18 @@ fn is_explained(task: &Task) -> bool
     ensures { result ≡ is_explained task.now }
 {
     match task {
-        Task::Answer(Query::Comparison(judge)) => judge.explained,
-        Task::Answer(Query::Attestation(attest)) => attest.explained,
+        Task::Answer(question) => asks_why(question),
+        _ => false,
+    }
+}
+
+// Whether a question asks to say that.
+fn asks_why(question: &Query) -> bool
+    ensures { result ≡ asks_why question.now }
+{
+    match question {
+        Query::Comparison(judge) => judge.explained,
+        Query::Attestation(attest) => attest.explained,
         _ => false,
     }
 }

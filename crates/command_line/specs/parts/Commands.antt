@@ -10,7 +10,7 @@ use Rattle.command_line.specs.Arguments.{beside, flag, optional, repeated, requi
 use Rattle.command_line.specs.declared.command_table.ArgumentRow.{ArgumentRow}
 use Rattle.command_line.specs.declared.command_table.CommandRow.{CommandRow}
 use Rattle.command_line.specs.declared.command_table.ArgumentForm.{ArgumentForm}
-use Rattle.command_line.specs.declared.command_table.ArgumentForm.TheVariants.{Required, Omittable, Repeated, Flag, FlagBeside, ShortFlagBeside, RequiredOption, Optional, OptionalBeside, Several, Defaulted}
+use Rattle.command_line.specs.declared.command_table.ArgumentForm.TheVariants.{Required, Omittable, Repeated, Flag, ShortFlag, FlagBeside, ShortFlagBeside, RequiredOption, Optional, OptionalBeside, Several, Defaulted}
 use Rattle.command_line.specs.declared.command_table.Values.{Values}
 use Rattle.command_line.specs.declared.command_table.Values.TheVariants.{Algs, Templates, Parsed}
 use Rattle.command_line.specs.declared.command_table.KnownNames.{KnownNames}
@@ -36,6 +36,7 @@ rule_of_form known id Required = required id
 rule_of_form known id Omittable = new_rule id
 rule_of_form known id Repeated = repeated id
 rule_of_form known id Flag = flag id
+rule_of_form known id (ShortFlag letter) = short_flag letter id
 rule_of_form known id (FlagBeside argument) = beside (flag id)
 rule_of_form known id (ShortFlagBeside letter option) = beside (short_flag letter id)
 rule_of_form known id (RequiredOption value) = required_option id
