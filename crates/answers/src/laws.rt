@@ -20,6 +20,7 @@ ghost use Rattle.answers.specs.ReportTexts.{report_text};
 ghost use Rattle.cells.specs.Cells.{rendered};
 ghost use Rattle.cells.specs.Values.{IsCount, IsOneLine, object_of};
 ghost use Rattle.cells.specs.declared.writer.Form.TheVariants.{Text};
+ghost use Rattle.answers.specs.declared.row_order.RowOrder.TheVariants.{Given};
 ghost use Rattle.answers.specs.AttestationCells.{attestation_cell};
 ghost use Rattle.answers.specs.Counted.{AreCounted, IsCountedClock, IsCountedPosition, IsCountedUnknown, IsCountedWhole};
 ghost use Rattle.answers.specs.KeyCells.{key_cell};
@@ -35,23 +36,23 @@ pub fn each_answer_is_one_line()
     ensures report { (required : Option (List BankRange)) (unknown : Option UnknownFiles) (is_match : Bool) (verdict : Verdict)
         → IsCount verdict.events → IsCount verdict.locality → IsCount verdict.entries → IsCount (length verdict.rows)
         → AreCounted verdict.strays → IfSome unknown IsCountedUnknown → AllByRecursion (λ row. IsCount row.expected.register) verdict.rows
-        → IsOneLine (object_of (report_cell required unknown is_match verdict).json) }
+        → IsOneLine (object_of (report_cell Given required unknown is_match verdict).json) }
     ensures prefix_report { (required : Option (List BankRange)) (unknown : Option UnknownFiles) (prefix : Verdict) (entries : ℕ)
         (unconfirmed : Option Unconfirmed)
         → IsCount prefix.events → IsCount prefix.locality → IsCount prefix.entries → IsCount entries
         → IfSome unconfirmed (λ fault. IfSome (unconfirmed_entry fault) IsCount) → IsCount (length prefix.rows) → AreCounted prefix.strays
         → IfSome unknown IsCountedUnknown → AllByRecursion (λ row. IsCount row.expected.register) prefix.rows
-        → IsOneLine (object_of (prefix_cell required unknown prefix entries unconfirmed).json) }
+        → IsOneLine (object_of (prefix_cell Given required unknown prefix entries unconfirmed).json) }
     ensures list_report { (required : Option (List BankRange)) (unknown : Option UnknownFiles) (verdict : ListVerdict)
         → IsCount verdict.entries → IsCount (length verdict.rows) → AreCounted verdict.strays
         → IfSome unknown IsCountedUnknown → AllByRecursion (λ row. IsCount row.expected.register) verdict.rows
-        → IsOneLine (object_of (list_report_cell required unknown verdict).json) }
+        → IsOneLine (object_of (list_report_cell Given required unknown verdict).json) }
     ensures attestation { (unknown : Option UnknownFiles) (report : AttestVerdict)
         → IsCountedClock report.quoted.clock → IsCount report.quoted.firmware
         → IsCount report.verdict.events → IsCount report.verdict.locality → IsCount report.verdict.entries
         → IfSome report.prefix IsCountedWhole → AreCounted report.verdict.strays → IfSome unknown IsCountedUnknown
         → AllByRecursion (λ row. IsCount row.expected.register) report.verdict.rows
-        → IsOneLine (object_of (attestation_cell unknown report).json) }
+        → IsOneLine (object_of (attestation_cell Given unknown report).json) }
     ensures key { (part : KeyPart) (report : KeyReport) → IsCount (kind_bits report.kind)
         → IsOneLine (object_of (key_cell part report).json) }
     ensures positions { (required : Option (List BankRange)) (located : List Located)
@@ -64,14 +65,14 @@ pub fn no_answer_has_a_fault()
     ensures registers { (now start : Banks) → get (codes "fault") (object_of (registers_cell now start).json) ≡ None }
     ensures expected { (expected : List Expected) → get (codes "fault") (object_of (expected_cell expected).json) ≡ None }
     ensures report { (required : Option (List BankRange)) (unknown : Option UnknownFiles) (is_match : Bool) (verdict : Verdict)
-        → get (codes "fault") (object_of (report_cell required unknown is_match verdict).json) ≡ None }
+        → get (codes "fault") (object_of (report_cell Given required unknown is_match verdict).json) ≡ None }
     ensures prefix_report { (required : Option (List BankRange)) (unknown : Option UnknownFiles) (prefix : Verdict) (entries : ℕ)
         (unconfirmed : Option Unconfirmed)
-        → get (codes "fault") (object_of (prefix_cell required unknown prefix entries unconfirmed).json) ≡ None }
+        → get (codes "fault") (object_of (prefix_cell Given required unknown prefix entries unconfirmed).json) ≡ None }
     ensures list_report { (required : Option (List BankRange)) (unknown : Option UnknownFiles) (verdict : ListVerdict)
-        → get (codes "fault") (object_of (list_report_cell required unknown verdict).json) ≡ None }
+        → get (codes "fault") (object_of (list_report_cell Given required unknown verdict).json) ≡ None }
     ensures attestation { (unknown : Option UnknownFiles) (report : AttestVerdict)
-        → get (codes "fault") (object_of (attestation_cell unknown report).json) ≡ None }
+        → get (codes "fault") (object_of (attestation_cell Given unknown report).json) ≡ None }
     ensures key { (part : KeyPart) (report : KeyReport) → get (codes "fault") (object_of (key_cell part report).json) ≡ None }
     ensures positions { (required : Option (List BankRange)) (located : List Located)
         → get (codes "fault") (object_of (positions_cell required located).json) ≡ None }
@@ -79,7 +80,7 @@ pub fn no_answer_has_a_fault()
 
 /// The texts that are sent without memory, as by `answers::write_report`, are those of the cells, and so are the lines of a key.
 pub fn sent_texts_are_of_cells()
-    ensures report { (verdict : Verdict) → report_text verdict ≡ rendered Text (report_cell None None (matches verdict) verdict) }
+    ensures report { (verdict : Verdict) → report_text verdict ≡ rendered Text (report_cell Given None None (matches verdict) verdict) }
     ensures positions { (located : List Located) → positions_text located ≡ rendered Text (positions_cell None located) }
     ensures registers { (now start : Banks) → registers_text now start ≡ rendered Text (registers_cell now start) }
     ensures expected { (expected : List Expected) → expected_text expected ≡ rendered Text (expected_cell expected) }

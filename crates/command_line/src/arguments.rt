@@ -4,7 +4,7 @@ ghost use Rattle.std.specs.Prelude.{◌≡◌, ◌==◌, ◌||◌, [], None, Ok,
 ghost use Rattle.clap.specs.Values.{kind_of};
 ghost use Rattle.clap.specs.Words.{Text as Words, found_of, rows_of, subcommand_rows_of};
 ghost use Rattle.std.specs.Vec.Iter.{into_iter_items};
-ghost use Rattle.agent_plans.specs.Plans.{IsWithinRanges, IsWithin, NamesKnown, TakesKnown};
+ghost use Rattle.agent_plans.specs.Plans.{HasLook, IsWithinRanges, IsWithin, NamesKnown, TakesKnown, look_of};
 ghost use Rattle.command_line.specs.Arguments.{BeginsWithVersion, HasHelpWord, HasComparison, HasQuery, HasValues, HasValuesIn, IsRequestedBy, IsHelp, IsPlanOrHelp, IsShownAs, asks_first, asks_help, asks_quiet, asks_version, begins_with, ends_options, help_options, is_quiet_word};
 ghost use Rattle.std.specs.List.{list_any};
 ghost use Rattle.cells.specs.declared.writer.Form.TheVariants.{Text};
@@ -14,11 +14,11 @@ ghost use Rattle.agent_plans.specs.declared.plan.Task.TheVariants.{Version};
 
 use crate::command_table::{KnownNames, all_commands};
 use crate::values::{
-    attest_of, boot_of, conversion_of, events_of, flag_of, key_of, known_of, log_of,
+    attest_of, boot_of, conversion_of, events_of, flag_of, key_of, known_of, log_of, look_for, look_of,
     measurement_of, name_of, old_kernel_of, text_if_given,
 };
 use agent_plans::{
-    ArgumentsFault, ComparisonKind, ComparisonOptions, Conversion, Form, Plan, Query, Scope, Task,
+    ArgumentsFault, ComparisonKind, ComparisonOptions, Conversion, Form, Look, Plan, Query, Scope, Task,
 };
 use clap::error::ErrorKind;
 use clap::{ArgMatches, Error};
@@ -31,6 +31,14 @@ use std::env::Args;
 // What is wrong with `--print binary` beside `--json`.
 const NO_JSON_OF_BYTES: &str =
     "error: invalid value 'binary' for '--print <OUTPUT>' with '--json'\n";
+
+// What is wrong with `--summary` and `--terminal` beside `--json` and each other.
+const SUMMARY_AS_JSON: &str = "error: the argument '--summary' cannot be used with '--json'\n";
+
+const TERMINAL_AS_JSON: &str = "error: the argument '--terminal' cannot be used with '--json'\n";
+
+const SUMMARY_BESIDE_TERMINAL: &str =
+    "error: the argument '--summary' cannot be used with '--terminal'\n";
 
 // What is wrong with `--known` where no registers are required.
 const KNOWN_WITHOUT_REQUIRED: &str =
@@ -188,12 +196,31 @@ fn wrong_pair(matches: &ArgMatches) -> Option<&'static str> {
         return wrong_pair_of_quote(matches).or(wrong_standard_input(matches));
     }
     if let Some(matches) = matches.subcommand_matches("attest") {
-        return wrong_pair_of_signing(matches);
+        return wrong_pair_of_signing(matches).or(wrong_pair_of_look(matches));
     }
     if let Some(matches) = matches.subcommand_matches("verify") {
-        return wrong_pair_of_known(matches).or(wrong_pair_of_old_kernel(matches));
+        return wrong_pair_of_known(matches)
+            .or(wrong_pair_of_old_kernel(matches))
+            .or(wrong_pair_of_look(matches));
     }
-    wrong_pair_of_known(matches.subcommand_matches("replay")?)
+    let matches = matches.subcommand_matches("replay")?;
+    wrong_pair_of_known(matches).or(wrong_pair_of_look(matches))
+}
+
+// Whether a verdict is to be shown in two ways.
+fn wrong_pair_of_look(matches: &ArgMatches) -> Option<&'static str> {
+    let is_summary = is_set(matches, "summary");
+    let is_terminal = is_set(matches, "terminal");
+    let is_json = is_set(matches, "json");
+    if is_summary && is_json {
+        Some(SUMMARY_AS_JSON)
+    } else if is_terminal && is_json {
+        Some(TERMINAL_AS_JSON)
+    } else if is_summary && is_terminal {
+        Some(SUMMARY_BESIDE_TERMINAL)
+    } else {
+        None
+    }
 }
 
 // Whether an older kernel's boot aggregate is to be taken where no registers are required.
@@ -380,15 +407,22 @@ fn task_of(
         "log" => conversion_of(alloc, matches, Conversion::Log, form),
         "show" => Ok(Task::Entries {
             list: name_of(alloc, matches, "LIST")?,
+            partial: flag_of(matches, "partial", false, true)?,
         }),
-        _ => Ok(Task::Answer(question_of(alloc, command, matches)?)),
+        _ => Ok(Task::Answer(question_of(alloc, command, matches, form)?)),
     }
 }
 
-// What the command of this name asks.
-fn question_of(alloc: Global, command: &str, matches: &ArgMatches) -> Result<Query, ArgumentsFault>
+// What the command of this name asks, whose answer is shown in this form.
+fn question_of(
+    alloc: Global,
+    command: &str,
+    matches: &ArgMatches,
+    form: Form,
+) -> Result<Query, ArgumentsFault>
     ensures values { IfOk result (HasQuery command.now (rows_of (found_of matches.now))) }
     ensures known { IfOk result NamesKnown }
+    ensures look { IfOk result (λ question. HasLook form (look_of question)) }
 {
     match command {
         "verify" => {
@@ -398,11 +432,12 @@ fn question_of(alloc: Global, command: &str, matches: &ArgMatches) -> Result<Que
                 resume: text_if_given(alloc, matches, "resume")?,
                 save: text_if_given(alloc, matches, "save")?,
             };
-            Ok(Query::Comparison(comparison_of(alloc, matches, kind)?))
+            Ok(Query::Comparison(comparison_of(alloc, matches, kind, form)?))
         }
         "locate" => {
             let log = log_of(alloc, matches)?;
-            Ok(Query::Comparison(comparison_of(alloc, matches, ComparisonKind::Positions { log })?))
+            let kind = ComparisonKind::Positions { log };
+            Ok(Query::Comparison(comparison_of(alloc, matches, kind, form)?))
         }
         "expected" => Ok(Query::Expected {
             printed: name_of(alloc, matches, "PCRREAD")?,
@@ -412,8 +447,8 @@ fn question_of(alloc: Global, command: &str, matches: &ArgMatches) -> Result<Que
         "registers" => Ok(Query::LogRegisters {
             log: log_of(alloc, matches)?,
         }),
-        "replay" => replay_of(alloc, matches),
-        "attest" => Ok(Query::Attestation(attest_of(alloc, matches)?)),
+        "replay" => replay_of(alloc, matches, form),
+        "attest" => Ok(Query::Attestation(attest_of(alloc, matches, form)?)),
         _ => Err(ArgumentsFault::Usage),
     }
 }
@@ -423,10 +458,12 @@ fn comparison_of(
     alloc: Global,
     matches: &ArgMatches,
     kind: ComparisonKind,
+    form: Form,
 ) -> Result<ComparisonOptions, ArgumentsFault>
     ensures values { IfOk result (λ judge. (command : Words) → HasComparison command (rows_of (found_of matches.now)) kind
         → HasQuery command (rows_of (found_of matches.now)) (queries.Comparison judge)) }
     ensures known { IfOk result (λ judge. NamesKnown (queries.Comparison judge)) }
+    ensures look { IfOk result (λ judge. HasLook form judge.look) }
 {
     let required = text_if_given(alloc, matches, "require")?;
     Ok(ComparisonOptions {
@@ -434,16 +471,18 @@ fn comparison_of(
         expected: name_of(alloc, matches, "EXPECTED")?,
         known: known_of(alloc, matches, &kind, &required)?,
         old_kernel: old_kernel_of(matches, &kind, &required)?,
+        look: look_for(matches, &kind, form)?,
         kind,
         required,
         explained: flag_of(matches, "explain", false, true)?,
     })
 }
 
-// What `replay` asks. Refuses `--require` and `--explain` without EXPECTED, and `--known` without `--require`.
-fn replay_of(alloc: Global, matches: &ArgMatches) -> Result<Query, ArgumentsFault>
+// What `replay` asks. Refuses `--require`, `--explain` and `--summary` without EXPECTED, and `--known` without `--require`.
+fn replay_of(alloc: Global, matches: &ArgMatches, form: Form) -> Result<Query, ArgumentsFault>
     ensures values { IfOk result (HasQuery (codes "replay") (rows_of (found_of matches.now))) }
     ensures known { IfOk result NamesKnown }
+    ensures look { IfOk result (λ question. HasLook form (look_of question)) }
 {
     let list = name_of(alloc, matches, "LIST")?;
     let expected = text_if_given(alloc, matches, "EXPECTED")?;
@@ -451,8 +490,9 @@ fn replay_of(alloc: Global, matches: &ArgMatches) -> Result<Query, ArgumentsFaul
     let kind = ComparisonKind::ListVerdict;
     let known = known_of(alloc, matches, &kind, &required)?;
     let explained = flag_of(matches, "explain", false, true)?;
-    match (expected, required, known, explained) {
-        (Some(expected), required, known, explained) => Ok(Query::Comparison(ComparisonOptions {
+    let look = look_of(matches, form)?;
+    match (expected, required, known, explained, look) {
+        (Some(expected), required, known, explained, look) => Ok(Query::Comparison(ComparisonOptions {
             kind,
             list,
             expected,
@@ -460,9 +500,10 @@ fn replay_of(alloc: Global, matches: &ArgMatches) -> Result<Query, ArgumentsFaul
             known,
             old_kernel: false,
             explained,
+            look,
         })),
-        (None, None, None, false) => Ok(Query::ListRegisters { list }),
-        (None, _, _, _) => Err(ArgumentsFault::Usage),
+        (None, None, None, false, Look::Plain | Look::Terminal) => Ok(Query::ListRegisters { list }),
+        (None, _, _, _, _) => Err(ArgumentsFault::Usage),
     }
 }
 

@@ -143,6 +143,12 @@ const RESUME: ArgumentRow<'static> = row!("resume"; ArgumentForm::Optional("FILE
 /// Whether standard error says what to do next even if it is no terminal.
 const EXPLAIN: ArgumentRow<'static> = row!("explain"; ArgumentForm::Flag);
 
+/// Whether one line is printed in place of the report.
+const SUMMARY: ArgumentRow<'static> = row!("summary"; ArgumentForm::Flag);
+
+/// Whether the report is printed as on a terminal.
+const TERMINAL: ArgumentRow<'static> = row!("terminal"; ArgumentForm::Flag);
+
 /// Whether the H-CRTM's event tells where the machine started.
 const HCRTM: ArgumentRow<'static> = row!("hcrtm"; ArgumentForm::Flag);
 
@@ -158,8 +164,8 @@ static COMMANDS: [CommandRow; 13] = [
         name: "verify",
         about: with_abouts!(; verify),
         arguments: &[
-            REQUIRE, OLD_KERNEL, KNOWN, PREFIX, SAVE, RESUME, HCRTM, EXPLAIN, JSON, QUIET, LOG,
-            LIST, EXPECTED,
+            REQUIRE, OLD_KERNEL, KNOWN, PREFIX, SAVE, RESUME, HCRTM, EXPLAIN, SUMMARY, TERMINAL,
+            JSON, QUIET, LOG, LIST, EXPECTED,
         ],
     },
     CommandRow {
@@ -179,6 +185,8 @@ static COMMANDS: [CommandRow; 13] = [
             RESUME,
             HCRTM,
             EXPLAIN,
+            SUMMARY,
+            TERMINAL,
             JSON,
             QUIET,
             LOG,
@@ -194,6 +202,8 @@ static COMMANDS: [CommandRow; 13] = [
             row!("require"; ArgumentForm::OptionalBeside("SELECTION", "EXPECTED")),
             KNOWN,
             row!("explain"; ArgumentForm::FlagBeside("EXPECTED")),
+            row!("summary"; ArgumentForm::FlagBeside("EXPECTED")),
+            TERMINAL,
             JSON,
             QUIET,
             LIST,
@@ -251,7 +261,7 @@ static COMMANDS: [CommandRow; 13] = [
     CommandRow {
         name: "show",
         about: with_abouts!(; show),
-        arguments: &[JSON, QUIET, LIST],
+        arguments: &[row!("partial"; ArgumentForm::Flag), JSON, QUIET, LIST],
     },
     CommandRow {
         name: "registers",

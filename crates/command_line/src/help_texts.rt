@@ -226,6 +226,9 @@ pub(crate) fn help_of<'a>(command: &str, id: &str) -> &'a str {
         "known" => help_of_known(command),
         "hcrtm" => "An H-CRTM event of LOG tells that PCR 0 began at 4",
         "explain" => help_of_explain(command),
+        "summary" => help_of_summary(command),
+        "terminal" => "Print as on a terminal: PCRs at reset last, and marked",
+        "partial" => "Print the entries before an error too, as --json does",
         "json" => help_of_json(command),
         "quiet" => "Say nothing on standard error",
         "nonce" => "The quote's nonce, in hexadecimal, 16 bytes or more",
@@ -314,6 +317,18 @@ was measured; not with --data or --json",
 After a difference, say what to do next, terminal or not.
 Only with EXPECTED",
         _ => "After a difference, say what to do next, terminal or not",
+    }
+}
+
+// The help of --summary.
+fn help_of_summary<'a>(command: &str) -> &'a str {
+    match command {
+        "replay" => "\
+Print one line in place of the report: verdict, reason and
+counts. Only with EXPECTED, and not with --json",
+        _ => "\
+Print one line in place of the report: verdict, reason and
+counts; not with --json",
     }
 }
 

@@ -2,15 +2,22 @@
 #![tactic(auto)]
 
 use hints::{Audience, SystemProgress};
-use ima_agent::{Listener, SystemFiles, WriteSink, arguments_after_name, asks_quiet, exit_code};
+use ima_agent::{
+    Listener, SystemFiles, WriteSink, arguments_after_name, as_on_terminal, asks_quiet, exit_code,
+};
 use std::io::IsTerminal;
 use std::process::ExitCode;
 use std::rt::Env;
 use std::{env, io};
 
-/// The arguments after the program's name. Fails if memory runs out, or if one is not UTF-8.
-fn arguments(rt: &(impl Env + AllocGlobal)) -> io::Result<Vec<String>> {
-    Ok(arguments_after_name(rt.alloc(), env::args(rt)?)?)
+/// The arguments after the program's name, for an output that is a terminal or is none. Fails if memory runs out, or if one is not UTF-8.
+fn arguments(rt: &(impl Env + AllocGlobal), is_terminal: bool) -> io::Result<Vec<String>> {
+    let arguments = arguments_after_name(rt.alloc(), env::args(rt)?)?;
+    if is_terminal {
+        Ok(as_on_terminal(rt.alloc(), arguments)?)
+    } else {
+        Ok(arguments)
+    }
 }
 
 // Whether these arguments ask for silence.
@@ -22,7 +29,7 @@ fn are_quiet(arguments: &io::Result<Vec<String>>) -> bool {
 }
 
 fn main(rt: HostRuntime) -> ExitCode {
-    let arguments = arguments(&rt);
+    let arguments = arguments(&rt, rt.stdout().is_terminal());
     let mut output = WriteSink::new(rt.stdout());
     let audience = Audience {
         types: rt.stdin().is_terminal(),
