@@ -46,7 +46,7 @@ ADVICE = {NOT_HEX, TOO_LONG, NOT_WRITABLE, NAMES_NOT_UTF8, *(row.advice for tabl
 # The numbers of the signature faults that are of the key, and what to do about each; about a key that is no public area, which the first ten of its
 # faults are of; and where nobody looked at a signature.
 OF_KEYS = (8, 9)
-NO_SIGNATURE = "SIG must be what tpm2_quote -s wrote with QUOTE, plain or not, and KEY the key that made it"
+NO_SIGNATURE = "SIG must be what tpm2_quote -s wrote with QUOTE, plain or not; KEY must be the key that made it"
 OTHER_SIGNATURE = "KEY does not allow the scheme or the hash of SIG: SIG was made by another key or changed"
 SIGNATURE_HINTS = {
     **dict.fromkeys((1, 2, 3, 4), NO_SIGNATURE),

@@ -9,7 +9,7 @@ abbrev pub unsigned_words : List ℕ
 unsigned_words = codes "the signature of QUOTE was not checked: add --key and --signature to verify it"
 
 abbrev pub refusal_words : SignatureRefusal → List ℕ
-refusal_words (Bytes fault) = codes "SIG must be what tpm2_quote -s wrote with QUOTE, plain or not, and KEY the key that made it"
+refusal_words (Bytes fault) = codes "SIG must be what tpm2_quote -s wrote with QUOTE, plain or not; KEY must be the key that made it"
 refusal_words OtherScheme = codes "KEY does not allow the scheme or the hash of SIG: SIG was made by another key or changed"
 refusal_words OtherHash = codes "KEY does not allow the scheme or the hash of SIG: SIG was made by another key or changed"
 refusal_words NotSigned = codes "SIG is from another key or another quote, or one of QUOTE, SIG and KEY was changed"

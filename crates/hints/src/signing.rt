@@ -43,7 +43,7 @@ fn refusal_words(refusal: SignatureRefusal) -> &'static str
 {
     match refusal {
         SignatureRefusal::Bytes(_) =>
-            "SIG must be what tpm2_quote -s wrote with QUOTE, plain or not, and KEY the key that made it",
+            "SIG must be what tpm2_quote -s wrote with QUOTE, plain or not; KEY must be the key that made it",
         SignatureRefusal::OtherScheme | SignatureRefusal::OtherHash =>
             "KEY does not allow the scheme or the hash of SIG: SIG was made by another key or changed",
         SignatureRefusal::NotSigned =>
