@@ -25,7 +25,7 @@ GOOD = "e8ed95b94e8d66f42e5b9be4d794dc0c7701e2360f03537fe59e9ba861a8024f"
 OTHER = "a2bcf779880ae33077f9e7992851299f30cea5f6cffc6512de6cd10aa457a7f3"
 MOMENT_AGO = "UPDATE ends SET time = strftime('%Y-%m-%dT%H:%M:%f+00:00', 'now', '-5 seconds')"
 
-CUT = "The firmware event log is damaged{}: its bytes are not all there. Copy the log again."
+CUT = "The firmware event log is damaged{}: it is cut short. Copy the log again."
 AHEAD = "UPDATE {} SET time = strftime('%Y-%m-%dT%H:%M:%f+00:00', 'now', '+30 seconds')"
 
 

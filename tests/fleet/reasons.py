@@ -99,7 +99,7 @@ def test_differing(tools):
 def test_places(tools):
     """Machines with one error at several places have one reason, in the view and in the summary; each has its own place."""
     texts = {
-        "refused: log fault 1 at event {}": "The firmware event log is damaged at event {}: its bytes are not all there. Copy the log again.",
+        "refused: log fault 1 at event {}": "The firmware event log is damaged at event {}: it is cut short. Copy the log again.",
         "refused: replay fault 1 at entry {}": "The measurement list is damaged at entry {}: its template digest is wrong. Copy the list again.",
         "refused: expected fault 2 at line {}": "The PCR values are wrong at line {}: it repeats a PCR of its bank. State each PCR of a bank once.",
         "refused: key fault 17": "The key cannot be used: the key does not sign. Give the attestation key, not the endorsement key.",

@@ -594,9 +594,7 @@ def test_unknown_and_unconfirmed(tools, folder, boot, known):
 
 
 def list_fault(number):
-    """The words by which the program displays an error of a list: those of docs/errors.txt, or of tests/faults/words.txt where that has others."""
-    if other := re.search(rf"^List {number}: (.*)$", (ROOT / "tests/faults/words.txt").read_text(), re.MULTILINE):
-        return other[1]
+    """The words in which the program says what is wrong with a list: those of docs/errors.txt."""
     text = (ROOT / "docs/errors.txt").read_text()
     return re.search(rf"^ +{number}  (.*)$", text[text.index("List faults"):], re.MULTILINE)[1]
 
