@@ -142,7 +142,7 @@ USAGES = [
     (["measure", "--workers", "9", "L"], f"error: invalid value '9' for '--workers <THREADS>': 9 is not in 1..=8\n{MORE}"),
     (["measure", "--alg", "sm3", "L"],
      f"error: invalid value 'sm3' for '--alg <HASH>'\n  [possible values: sha1, sha256, sha384, sha512]\n{MORE}"),
-    (["measure", "--json", "--print", "binary", "L"], "error: invalid value 'binary' for '--print <OUTPUT>' with '--json'\n"),
+    (["measure", "--json", "--print", "binary", "L"], "error: the argument '--print binary' cannot be used with '--json'\n"),
     *((["events", "--explain", other, "L"], f"error: the argument '--explain' cannot be used with '{other}'\n") for other in ("--data", "--json")),
     *((["events", *more, "--expected", "E", "L"],
        "error: the argument '--expected <EXPECTED>' cannot be used without '--explain' or '--json'\n") for more in ([], ["--data"])),
@@ -152,9 +152,9 @@ USAGES = [
      f"error: invalid value 'ascii' for '--print <PART>'\n  [possible values: all, name, pem]\n{MORE}"),
     *(([command, "--json", "L"], "error: unexpected argument '--json' found\n\n  tip: to pass '--json' as a value, use '-- --json'\n\n"
        f"Usage: ima-agent {command} [OPTIONS] <FILE>\n{MORE}") for command in ("list", "log")),
-    *(([command, *more, "--expected", "-", "-"], "error: the argument '--expected <EXPECTED>' cannot be '-' if '<LOG>' is\n")
+    *(([command, *more, "--expected", "-", "-"], "error: '<LOG>' and '--expected <EXPECTED>' cannot both be '-'\n")
       for command, more in (("boot", []), ("events", ["--explain"]), ("events", ["--json"]))),
-    (["boot", "--before", "-", "L"], "error: invalid value '-' for '--before <OLD_LOG>': it is no file\n"),
+    (["boot", "--before", "-", "L"], "error: invalid value '-' for '--before <OLD_LOG>': it must be a file\n"),
     (["\x1b[31m\nred"], f"error: unrecognized subcommand '\\x1b[31m\\x0ared'\n\nUsage: ima-agent [COMMAND]\n{MORE}"),
     *(([*words, "--require", text, *names], f"error: invalid value '{text}' for '{REQUIRE}': {malformed(place, part)}\n")
       for words, names, text, place, part in (
@@ -176,9 +176,9 @@ USAGES = [
       for text, bank in (("sha265:0-10", "sha265"), ("SHA256:0-10", "SHA256"), ("sha256:0-10+sm3:10", "sm3"), (":10", ""))),
     *((["attest", "--nonce", nonce, "--require", "sha256:0-10", "L", "M", "Q"], f"error: invalid value '{shown}' for '{NONCE}': {cause}\n")
       for nonce, shown, cause in (
-          ("xy", "xy", "it is not hexadecimal"),
-          ("000", "000", "it is not hexadecimal"),
-          ("\x1b[2J", r"\x1b[2J", "it is not hexadecimal"),
+          ("xy", "xy", "it must be hexadecimal, two digits per byte"),
+          ("000", "000", "it must be hexadecimal, two digits per byte"),
+          ("\x1b[2J", r"\x1b[2J", "it must be hexadecimal, two digits per byte"),
           ("00", "00", SHORT_NONCE),
           ("0" * 30, "0" * 30, SHORT_NONCE),
       )),
@@ -205,7 +205,8 @@ USAGES = [
      f"Usage: ima-agent attest {NONCE} {REQUIRE} <LOG> <LIST> <QUOTE> [EXPECTED]\n{MORE}"),
     (["attest", "--nonce", "00", "--require", "sha256", "L", "M", "Q"],
      f"error: invalid value 'sha256' for '{REQUIRE}': {malformed(1, 'sha256')}\n"),
-    (["attest", "--nonce", "xy", "--require", "sha256", "L", "M", "Q"], f"error: invalid value 'xy' for '{NONCE}': it is not hexadecimal\n"),
+    (["attest", "--nonce", "xy", "--require", "sha256", "L", "M", "Q"],
+     f"error: invalid value 'xy' for '{NONCE}': it must be hexadecimal, two digits per byte\n"),
     *((["attest", "--nonce", "0" * 32, "--require", text, "L", "M", "Q"], f"error: invalid value '{text}' for '{REQUIRE}': {cause}\n")
       for text, cause in (
           ("sha256", malformed(1, "sha256")),
