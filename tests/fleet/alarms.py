@@ -50,7 +50,7 @@ REASONS = {
 # What the library says of a log that is cut short, and what is said of a machine that differs in several ways.
 CUT = "The firmware event log is damaged at event {}: it is cut short. Copy it."
 DIFFERING = (
-    "No value is expected for SHA-256 PCR 4; the boot aggregate is not the log's; log and list do not make the quoted PCRs; entries are of unknown "
+    "No value is expected for SHA-256 PCR 4; the boot aggregate is not the log's; log and list do not make the quoted PCRs; entries are for unknown "
     "files; an entry of the list extends PCR 9."
 )
 

@@ -487,7 +487,7 @@ def test_report_by_quote(tools, folder):
     found = [(status, judged(page)[0]) for status, page, _ in reports_of(tools, weak)]
     tools.check("a quote of SHA-1 alone is asked for only with --sha1", found, [(2, "refused"), (4, "refused")])
     text, _ = state_of(unasked[1])
-    tools.check("a quote that is not looked at", ("Not quoted" in text, "was not looked at" in text), (True, True))
+    tools.check("a quote that is not looked at", ("Not quoted" in text, "was not used" in text), (True, True))
     calls = [(boot, *words) for words in (("--nonce", nonce), tuple(asked[:2]), ("--sha1",), ("--frobnicate",), ("--require", "a", "--require", "b"))]
     for (_, word, *_), (status, page, errors) in zip(calls, reports_of(tools, calls)):
         tools.check(f"refused arguments: {word}", (status, page.inner, "usage" in errors), (64, [], True))
