@@ -277,7 +277,7 @@ def change_lists(folder):
 
 
 def test_ages(tools):
-    """Lists that were changed too long ago, or at a time to come, are not taken where --max-age says so."""
+    """Lists that were changed too long ago, or at a time in the future, are not taken where --max-age says so."""
     folder = tools.folder / "ages"
     machines = make_machines(folder, 5)
     lines = machines.read_text().splitlines()
