@@ -14,10 +14,10 @@
  *     struct ima_verify_output output = {.data = report, .capacity = sizeof report};
  *     if (ima_verify_verdict(&evidence, IMA_VERIFY_TEXT, &summary, &output) == IMA_VERIFY_DONE) ..
  *
- * A function gives the text that the program `ima-agent` prints for the command of the same name, or with
- * IMA_VERIFY_JSON the lines that it prints with --json. Inputs may also be longer than 64 MiB. The pages formats.md,
- * event-data.md and json.md describe the formats, verdict.md what a verdict means, and errors.txt what each error
- * number means.
+ * Most functions give the text that the program `ima-agent` prints for the command of the same name (ima_verify(3) has
+ * the exceptions), or with IMA_VERIFY_JSON the lines that it prints with --json. Inputs may also be longer than 64 MiB.
+ * The pages formats.md, event-data.md and json.md describe the formats, verdict.md what a verdict means, and errors.txt
+ * what each error number means.
  *
  * ima_verify_convert converts inputs in other forms, such as the kernel's list as text.
  *
@@ -27,9 +27,9 @@
  * 10` or `entry 17 extends 11`. With `checks_known` the entries must also be for known files.
  *
  * Pointers. A NULL pointer must have the size 0; otherwise the function returns IMA_VERIFY_MISUSED. Nothing may change
- * an input during a call, as another process may change a mapped file: the bytes whose signature is verified would not
- * be those that are judged. Inputs may overlap each other, and calls may share them. Outputs may overlap nothing else
- * that a call is given.
+ * an input during a call, as another process may change a mapped file: otherwise the bytes whose signature is verified
+ * might not be those that are judged. Inputs may overlap each other, and calls may share them. Outputs may overlap
+ * nothing else that a call is given.
  *
  * Memory. A call allocates with malloc and realloc, and frees everything before it returns. If you replace one of
  * malloc, realloc and free, replace all three. A call keeps no events or entries except in the text that it gives. It
@@ -537,7 +537,7 @@ ima_verify_replay(const struct ima_verify_evidence *evidence, enum ima_verify_fo
  * one.
  *
  * The first error is reported, in this order: `require`, the expected PCRs, the text of the checkpoint (`refused:
- * checkpoint fault 1` or `2`), the known files, the log, whether the checkpoint is of this boot (`refused: checkpoint
+ * checkpoint fault 1` or `2`), the known files, the log, whether the checkpoint is from this boot (`refused: checkpoint
  * fault 3`), the list, whether each template digest matches. (If 64 MiB would not fit between the list and 2^63 bytes,
  * it is IMA_VERIFY_OUT_OF_MEMORY.) A checkpoint is trusted: whoever can write it can choose the verdict. Give only what
  * this function gave. */
@@ -561,9 +561,9 @@ ima_verify_more(const struct ima_verify_evidence *evidence, struct ima_verify_by
 
 /* The verdict by a quote on a log and a list that grows, and in `next` the checkpoint from which the next call
  * continues. `state`, `prefix` and `next` are as for ima_verify_more, and the two functions take each other's
- * checkpoints. But a quote continues only from a checkpoint that a quote confirmed, with the TPM's counts of resets and
- * restarts of the new quote: otherwise it is of another boot (`refused: checkpoint fault 4`). After a suspend the count
- * of restarts differs, so start again with the whole list.
+ * checkpoints. But a quote continues only from a checkpoint that a quote confirmed, with the same counts of resets and
+ * restarts as the new quote: otherwise it is from another boot (`refused: checkpoint fault 4`). After a suspend the
+ * count of restarts differs, so start again with the whole list.
  *
  * The key must have signed the message, which must have the nonce and select each PCR in `require`. IMA_VERIFY_DONE if
  * the message has the digest of the values to which log and list replay, the boot aggregate is good, no event of the
@@ -573,13 +573,13 @@ ima_verify_more(const struct ima_verify_evidence *evidence, struct ima_verify_by
  * the quote's PCR values.
  *
  * The library verifies signatures by RSA keys of 2048 to 4096 bits (RSASSA and RSAPSS) and by keys on P-256 and P-384
- * (ECDSA), with SHA-256, SHA-384 and SHA-512. A key's public area states its scheme and hash; a PEM does not, and each
+ * (ECDSA), with SHA-256, SHA-384 and SHA-512. A key's public area states its scheme and hash; a PEM does not, and any
  * is accepted. A key that is not restricted, or that was imported into the TPM, also signs messages that no TPM made.
  * Its public area is refused, but a PEM does not show this.
  *
  * The first error is reported, in this order: `require` and the nonce, the key (`refused: key fault 1` to `20`,
  * `refused: signature fault 8` or `9`), the signature (`refused: signature fault 1` to `7`), the message (`refused:
- * quote fault 1` to `12`), the text of the checkpoint (`refused: checkpoint fault 1` or `2`), whether it is of the
+ * quote fault 1` to `12`), the text of the checkpoint (`refused: checkpoint fault 1` or `2`), whether it is from the
  * quote's boot (`refused: checkpoint fault 4`), the known files, the log, whether the log is that of the checkpoint
  * (`refused: checkpoint fault 3`), the list, whether each template digest matches. */
 IMA_VERIFY_USE_RESULT static inline enum ima_verify_result
