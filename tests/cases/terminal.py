@@ -81,6 +81,7 @@ from said import (  # noqa: E402
     SIGNATURE,
     SIGNATURE_HINTS,
     TEXT,
+    TOO_LONG,
     UNSIGNED,
     fault_line_of,
     is_of_usage,
@@ -353,12 +354,13 @@ def further_commands():
     yield Command("little memory", ["registers", "large 0"], Ended(3, memory, OUT_OF_MEMORY), limit_memory)
     yield Command("a folder as standard input", [], Ended(3, b"failed: read -\n", b"cannot read standard input: Is a directory\n"),
                   lambda: give("."))
-    yield Command("standard input without an end", [], Ended(2, b"refused: too long -\n", b"standard input is longer than 64 MiB\n"),
+    endless = f"standard input is longer than 64 MiB\n{TOO_LONG}\n".encode()
+    yield Command("standard input without an end", [], Ended(2, b"refused: too long -\n", endless),
                   lambda: give("/dev/zero"))
     yield Command("a folder as the standard input of events", ["events", "-"], Ended(3, b"failed: read -\n", b"cannot read standard input: Is a directory\n"),
                   lambda: give("."))
     yield Command("standard input of list without an end", ["list", "-"],
-                  Ended(2, b"refused: too long -\n", b"standard input is longer than 64 MiB\n"), lambda: give("/dev/zero"))
+                  Ended(2, b"refused: too long -\n", endless), lambda: give("/dev/zero"))
     yield Command("a file of the name of standard input", ["show", "-"], Ended(3, b"failed: read -\n", b"cannot read -: No such file or directory\n"))
     yield Command("a folder", ["show", "."], Ended(3, b"failed: read .\n", b"cannot read .: Is a directory\n"))
     for title, settle in (
