@@ -30,7 +30,7 @@ use std::env::Args;
 
 // What is wrong with `--print binary` beside `--json`.
 const NO_JSON_OF_BYTES: &str =
-    "error: invalid value 'binary' for '--print <OUTPUT>' with '--json'\n";
+    "error: the argument '--print binary' cannot be used with '--json'\n";
 
 // What is wrong with `--summary` and `--terminal` beside `--json` and each other.
 const SUMMARY_AS_JSON: &str = "error: the argument '--summary' cannot be used with '--json'\n";
@@ -40,7 +40,7 @@ const TERMINAL_AS_JSON: &str = "error: the argument '--terminal' cannot be used 
 const SUMMARY_BESIDE_TERMINAL: &str =
     "error: the argument '--summary' cannot be used with '--terminal'\n";
 
-// What is wrong with `--known` where no registers are required.
+// What is wrong with `--known` where no PCRs are required.
 const KNOWN_WITHOUT_REQUIRED: &str =
     "error: the argument '--known <FILE>' cannot be used without '--require'\n";
 
@@ -66,10 +66,10 @@ const EXPECTED_BESIDE_QUOTE: &str =
 
 // What is wrong with `-` twice, and as the log of an earlier boot.
 const STANDARD_INPUT_TWICE: &str =
-    "error: the argument '--expected <EXPECTED>' cannot be '-' if '<LOG>' is\n";
+    "error: '<LOG>' and '--expected <EXPECTED>' cannot both be '-'\n";
 
 const STANDARD_INPUT_EARLIER: &str =
-    "error: invalid value '-' for '--before <OLD_LOG>': it is no file\n";
+    "error: invalid value '-' for '--before <OLD_LOG>': it must be a file\n";
 
 // What is wrong with `--quote` without what is asked of a quote.
 const QUOTE_WITHOUT_LIST: &str =
@@ -105,7 +105,7 @@ const SIGNATURE_WITHOUT_QUOTE: &str =
 const CHECKED_WITHOUT_QUOTE: &str =
     "error: the argument '--signature-checked' cannot be used without '--quote'\n";
 
-// What is wrong with a key or a signature alone, and beside `--signature-checked`.
+// What is wrong with a key without a signature, or a signature without a key, and with a key beside `--signature-checked`.
 const KEY_WITHOUT_SIGNATURE: &str =
     "error: the argument '--key <KEY>' cannot be used without '--signature'\n";
 
@@ -136,10 +136,9 @@ pub fn read_words(alloc: Global, arguments: &[String]) -> Result<Plan, Arguments
     }
 }
 
-/// What `clap` says of arguments that it refuses, or what is wrong with `--print binary` beside `--json`, with options of `attest`, `events` or
-/// `boot` that do not go together, with known files where no registers are required, or with a nonce that is not hexadecimal: lines for a person,
-/// which may have any bytes of the arguments. `None` if `clap` takes them, and they are no such; of `--help` and `--version` it is what
-/// `clap` shows.
+/// What is wrong with arguments that are refused: lines for a person, which may have any bytes of the arguments. If `clap` refuses them, this is
+/// its message. Otherwise options that do not go together, or a nonce that is not hexadecimal, are named. `None` if nothing is wrong. For
+/// `--help` and `--version` it is what `clap` shows.
 pub fn refusal_of(alloc: Global, arguments: &[String]) -> Result<Option<String>, AllocError>
     // Without arguments nothing is refused.
     ensures none { arguments.now ≡ [] → result ≡ Ok None }
@@ -169,7 +168,7 @@ fn nonce_refusal(alloc: Global, matches: &ArgMatches) -> Result<Option<String>, 
         Ok(_) => Ok(None),
         Err(FromHexError::OutOfMemory) => Err(AllocError),
         Err(_) => Ok(Some(format!(in alloc;
-            "error: invalid value '{nonce}' for '--nonce <HEX>': it is not hexadecimal\n"
+            "error: invalid value '{nonce}' for '--nonce <HEX>': it must be hexadecimal, two digits per byte\n"
         )?)),
     }
 }
@@ -223,14 +222,14 @@ fn wrong_pair_of_look(matches: &ArgMatches) -> Option<&'static str> {
     }
 }
 
-// Whether an older kernel's boot aggregate is to be taken where no registers are required.
+// Whether an older kernel's boot aggregate is to be taken where no PCRs are required.
 fn wrong_pair_of_old_kernel(matches: &ArgMatches) -> Option<&'static str> {
     (is_set(matches, "old-kernel") && !matches.contains_id("require")).then_some(
         OLD_KERNEL_WITHOUT_REQUIRED,
     )
 }
 
-// Whether known files are named where no registers are required.
+// Whether known files are named where no PCRs are required.
 fn wrong_pair_of_known(matches: &ArgMatches) -> Option<&'static str> {
     (matches.contains_id("known") && !matches.contains_id("require")).then_some(
         KNOWN_WITHOUT_REQUIRED,
@@ -244,7 +243,7 @@ fn wrong_pair_of_measure(matches: &ArgMatches) -> Option<&'static str> {
     )
 }
 
-// Whether events are to be explained in a form that has no room for it, or expected registers or a quote are given to one; or what is wrong
+// Whether events are to be explained in a form that has no room for it, or expected PCRs or a quote are given to one; or what is wrong
 // with the quote.
 fn wrong_pair_of_events(matches: &ArgMatches) -> Option<&'static str> {
     let explains = is_set(matches, "explain");
@@ -263,7 +262,7 @@ fn wrong_pair_of_events(matches: &ArgMatches) -> Option<&'static str> {
     }
 }
 
-// Whether log and expected registers are both standard input, or the log of an earlier boot is.
+// Whether log and expected PCRs are both standard input, or the log of an earlier boot is.
 fn wrong_standard_input(matches: &ArgMatches) -> Option<&'static str> {
     if is_dash(matches, "LOG") && is_dash(matches, "expected") {
         Some(STANDARD_INPUT_TWICE)
@@ -274,7 +273,7 @@ fn wrong_standard_input(matches: &ArgMatches) -> Option<&'static str> {
     }
 }
 
-// Whether a quote is given beside expected registers, or lacks something that is asked of it, or this is given without one.
+// Whether a quote is given beside expected PCRs, or lacks something that is asked of it, or this is given without one.
 fn wrong_pair_of_quote(matches: &ArgMatches) -> Option<&'static str> {
     if !matches.contains_id("quote") {
         without_quote(matches)
@@ -291,7 +290,7 @@ fn wrong_pair_of_quote(matches: &ArgMatches) -> Option<&'static str> {
     }
 }
 
-// Whether a key or a signature is given alone, or beside the caller's word.
+// Whether a key or a signature is given without the other, or beside `--signature-checked`.
 fn wrong_pair_of_signing(matches: &ArgMatches) -> Option<&'static str> {
     let is_checked = is_set(matches, "signature-checked");
     match (matches.contains_id("key"), matches.contains_id("signature")) {
@@ -453,7 +452,7 @@ fn question_of(
     }
 }
 
-// What is asked of a list and expected registers, if this is judged.
+// What is asked of a list and expected PCRs, if this is judged.
 fn comparison_of(
     alloc: Global,
     matches: &ArgMatches,

@@ -95,23 +95,23 @@ const LIST: ArgumentRow<'static> = row!("LIST"; ArgumentForm::Required);
 /// A file of another form.
 const FILE: ArgumentRow<'static> = row!("FILE"; ArgumentForm::Required);
 
-/// Expected registers.
+/// Expected PCRs.
 const EXPECTED: ArgumentRow<'static> = row!("EXPECTED"; ArgumentForm::Required);
 
-/// Expected registers, or none.
+/// Expected PCRs, or none.
 const EXPECTED_IF_GIVEN: ArgumentRow<'static> = row!("EXPECTED"; ArgumentForm::Omittable);
 
-/// Expected registers that tell what of a log is confirmed.
+/// Expected PCRs, which say what part of a log is confirmed.
 const CONFIRMED: ArgumentRow<'static> = row!("expected"; ArgumentForm::Optional("EXPECTED"));
 
-/// A quote that tells what of a log is confirmed, with the list that it is also of, and what it must be.
+/// A quote, which says what part of a log is confirmed, the list that it also covers, and its nonce.
 const QUOTE: ArgumentRow<'static> = row!("quote"; ArgumentForm::Optional("QUOTE"));
 
 const QUOTED_LIST: ArgumentRow<'static> = row!("list"; ArgumentForm::Optional("LIST"));
 
 const NONCE: ArgumentRow<'static> = row!("nonce"; ArgumentForm::Optional("HEX"));
 
-/// Whether registers of the SHA-1 bank alone are taken.
+/// Whether PCRs that are required only in the SHA-1 bank are accepted.
 const SHA1: ArgumentRow<'static> = row!("sha1"; ArgumentForm::Flag);
 
 /// Whether the boot aggregate of an older kernel is taken.
@@ -137,7 +137,7 @@ const PREFIX: ArgumentRow<'static> = row!("prefix"; ArgumentForm::Flag);
 /// Where the checkpoint is saved.
 const SAVE: ArgumentRow<'static> = row!("save"; ArgumentForm::Optional("FILE"));
 
-/// The checkpoint to go on from.
+/// The checkpoint to continue from.
 const RESUME: ArgumentRow<'static> = row!("resume"; ArgumentForm::Optional("FILE"));
 
 /// Whether standard error says what to do next even if it is no terminal.
@@ -149,7 +149,7 @@ const SUMMARY: ArgumentRow<'static> = row!("summary"; ArgumentForm::Flag);
 /// Whether the report is printed as on a terminal.
 const TERMINAL: ArgumentRow<'static> = row!("terminal"; ArgumentForm::Flag);
 
-/// Whether the H-CRTM's event tells where the machine started.
+/// Whether the H-CRTM's event says where the machine started.
 const HCRTM: ArgumentRow<'static> = row!("hcrtm"; ArgumentForm::Flag);
 
 /// Whether the result is printed as JSON.
@@ -343,7 +343,7 @@ pub(crate) fn all_commands<'a>(alloc: Global, known: KnownNames<'a>) -> Built<'a
     Ok(program)
 }
 
-// The rows of all commands. It is a function of its own, since a static that is borrowed makes a proof dear.
+// The rows of all commands. It is a function of its own, since a static that is borrowed makes a proof expensive.
 fn rows<'a>() -> &'a [CommandRow<'a>]
     ensures { (known : KnownNames) → (parsers : Parsers) × (fold (with_row known) program_app result.now ≡ commands parsers) }
 {
