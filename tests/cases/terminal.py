@@ -32,6 +32,7 @@ from typing import NamedTuple
 sys.path.insert(0, str(Path(__file__).resolve().parents[1]))
 import form  # noqa: E402
 import harness  # noqa: E402
+import reference  # noqa: E402
 from answers import Answer, fault_of  # noqa: E402
 from reference.faults import Fault  # noqa: E402
 from reference.hints import (  # noqa: E402
@@ -455,6 +456,23 @@ def hinted_commands():
     yield "a quoted list that grew, by links", ["attest", *quoted, "--require=sha256:0-10", *links[:2], "link to quote.msg"], 1, [grown]
 
 
+def shown_commands():
+    """Commands that leave nothing but their output on a terminal, and those that leave the same in a file."""
+    verified = ["firmware.log", "ima.list", "expected.txt"]
+    quoted = ["--quiet", "--nonce", NONCE_GIVEN, "--require", "sha256:0-10", "firmware.log", "ima.list", "quote.msg", "expected.txt"]
+    judged = (["verify", *verified], ["verify", "--quiet", "firmware.log", "ima.list", "changed.txt"], ["verify", "--", *verified],
+              ["verify", "--quiet", "--prefix", "--require", "sha256:0-10", "firmware.log", "longer.list", "expected.txt"],
+              ["replay", "--quiet", "ima.list", "expected.txt"], ["replay", "ima.list"], ["attest", *quoted])
+    for command, *rest in judged:
+        yield [command, *rest], [command, "--terminal", *rest]
+        yield [command, "--terminal", *rest], [command, "--terminal", *rest]
+        yield [command, "--json", *rest], [command, "--json", *rest]
+        if rest != ["ima.list"]:
+            yield [command, "--summary", *rest], [command, "--summary", *rest]
+    for words in (["show", "ima.list"], ["locate", "--quiet", *verified], ["registers", "firmware.log"], ["verify", "--quiet", "--summary", "firmware.log"]):
+        yield words, words
+
+
 def mistaken_commands():
     """Commands whose input is not what it should be, what is refused, and what is said: the row of the fault, and what the input is."""
     head, line, cut = LOG[2], EXPECTED[1].at("line", 1), LOG[1].at("event", "0")
@@ -868,6 +886,13 @@ class Further(harness.TestCase):
         found = run_on_terminal(["show", "none"], self.room, subprocess.DEVNULL, subprocess.DEVNULL, lambda: os.dup2(2, 1))
         wanted = (3, b"failed: read none\ncannot read none: No such file or directory\n")
         self.check("a refusal, all on one terminal", found, wanted)
+
+    def test_looks(self):
+        """Where the output is a terminal, a report has PCRs at reset last, unless another form is asked for."""
+        make_samples(self.room)
+        for words, like in shown_commands():
+            found = run_on_terminal(words, self.room, subprocess.DEVNULL, subprocess.DEVNULL, lambda: os.dup2(2, 1))
+            self.check(f"{words}, its output on a terminal", found, reference.answer(like, self.room))
 
     def test_pace(self):
         """Measurements of pipes show each number in turn, from 1 on, after more than a second, and none before."""

@@ -119,9 +119,7 @@ NamesKnown question = Unit {0}
 
 -- As JSON a verdict has no other look than the plain one.
 abbrev pub HasLook : Form → Look → Type 0
-HasLook forms.Text look = Unit {0}
-HasLook forms.Json Plain = Unit {0}
-HasLook forms.Json look = ⊥
+HasLook form look = form ≡ forms.Json → look ≡ Plain
 
 -- What is to be done can be done, and shown in this form: there is no JSON of a file that is converted.
 abbrev pub IsWithin : Form → Task → Type 0

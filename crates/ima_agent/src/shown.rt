@@ -60,9 +60,27 @@ pub(crate) fn entries_for<F: AgentFiles, S: Sink>(
     ensures { Streams form (IsOutcome (F.inputs files.old) (tasks.Entries list.now partial) form (F.replaced files.old) (F.replaced files.new))
         (S.state sink.old) (S.state sink.new) result }
 {
-    match (form, partial) {
-        (Form::Text, false) => send_sound_list(alloc, files, list, sink),
-        (Form::Text, true) | (Form::Json, _) => send_list(alloc, files, list, form, sink),
+    match form {
+        Form::Text => send_as_text(alloc, files, list, partial, sink),
+        Form::Json => send_list(alloc, files, list, Form::Json, sink),
+    }
+}
+
+// Sends as text the entries of the list in the file of this name.
+fn send_as_text<F: AgentFiles, S: Sink>(
+    alloc: Global,
+    files: &mut F,
+    list: &String,
+    partial: bool,
+    sink: &mut S,
+) -> Sent
+    ensures { Streams Text (IsOutcome (F.inputs files.old) (tasks.Entries list.now partial) Text (F.replaced files.old) (F.replaced files.new))
+        (S.state sink.old) (S.state sink.new) result }
+{
+    if partial {
+        send_list(alloc, files, list, Form::Text, sink)
+    } else {
+        send_sound_list(alloc, files, list, sink)
     }
 }
 

@@ -58,10 +58,11 @@ abbrev pub render : Form → Answered → List ℕ
 render form given = rendered_in Given form given
 
 -- The answer in this form, and as text with this look: as it is, with PCRs at reset last, or in one line.
-abbrev pub shown_as : Look → Form → Answered → List ℕ
-shown_as looks.Terminal forms.Text given = rendered_in ResetLast forms.Text given
-shown_as looks.Summary forms.Text given = summary_line (summary_of given)
-shown_as look form given = render form given
+abbrev pub shown_as : Form → Look → Answered → List ℕ
+shown_as forms.Json look given = render forms.Json given
+shown_as forms.Text looks.Plain given = render forms.Text given
+shown_as forms.Text looks.Terminal given = rendered_in ResetLast forms.Text given
+shown_as forms.Text looks.Summary given = summary_line (summary_of given)
 
 -- ---- a measurement
 
@@ -97,7 +98,7 @@ HasSaved old new name next = new ≡ old
 -- The answer is shown. If all is well, the checkpoint of what it is on is saved, if a name is given for it; nothing else is.
 abbrev pub ShowsAnswer : Inputs → Requested → Option (List ℕ) → Form → Look → ReplacedFiles → ReplacedFiles → List ℕ → ℕ → Type 0
 ShowsAnswer inputs request save form look old new shown status =
-    (next : Option SavedState) × IsShown inputs request (shown_as look form) shown status next × HasSaved old new save next
+    (next : Option SavedState) × IsShown inputs request (shown_as form look) shown status next × HasSaved old new save next
 
 -- The summary is that of an answer to what is asked for.
 abbrev pub IsSummaryOn : Inputs → Requested → Summary → Type 0

@@ -5,6 +5,7 @@ ghost use Rattle.agent_inputs.specs.Loading.{unknown};
 ghost use Rattle.judging.specs.Requests.{requested_of};
 ghost use Rattle.rendering.specs.Rendering.{GivesAnswer, HasSaved, IsNotSaved, IsOutputFault, IsRefusalOn, IsSummaryOn, ShowsAnswer, answer_cell, answer_status, render, rendered_in, shown_as, state_of};
 ghost use Rattle.cells.specs.Cells.{ShowsMembers};
+ghost use Rattle.cells.specs.declared.writer.Form.TheVariants.{Text};
 
 use crate::no_files::NoFiles;
 use crate::summary::Summary;
@@ -138,7 +139,10 @@ pub fn render(alloc: Global, given: &Answered, form: Form) -> Result<Output, All
     ensures text { IfOk result (λ output. output.text.items ≡ render form given.now) }
     ensures status { IfOk result (λ output. output.status ≡ answer_status given.now.is_success given.now.answer) }
 {
-    shown_as(alloc, given, form, Look::Plain)
+    Ok(Output {
+        text: text_in(alloc, given, form, RowOrder::Given)?,
+        status: status_of_answer(given),
+    })
 }
 
 /// The output of an answer in this form, and as text with this look. The status is the same whatever the look.
@@ -148,32 +152,30 @@ pub fn shown_as(
     form: Form,
     look: Look,
 ) -> Result<Output, AllocError>
-    ensures text { IfOk result (λ output. output.text.items ≡ shown_as look form given.now) }
+    ensures text { IfOk result (λ output. output.text.items ≡ shown_as form look given.now) }
     ensures status { IfOk result (λ output. output.status ≡ answer_status given.now.is_success given.now.answer) }
 {
-    Ok(Output {
-        text: text_as(alloc, given, form, look)?,
-        status: status_of_answer(given),
-    })
-}
-
-// The text of that output.
-fn text_as(
-    alloc: Global,
-    given: &Answered,
-    form: Form,
-    look: Look,
-) -> Result<Vec<u8>, AllocError>
-    ensures { IfOk result (λ text. text.items ≡ shown_as look form given.now) }
-{
-    match (form, look) {
-        (Form::Text, Look::Summary) => summary_line(alloc, &Summary::of(given)),
-        (Form::Text, Look::Terminal) => text_in(alloc, given, form, RowOrder::ResetLast),
-        (Form::Text, Look::Plain) | (Form::Json, _) => text_in(alloc, given, form, RowOrder::Given),
+    match form {
+        Form::Json => render(alloc, given, Form::Json),
+        Form::Text => Ok(Output {
+            text: text_with(alloc, given, look)?,
+            status: status_of_answer(given),
+        }),
     }
 }
 
-// The text of an answer with its rows in this order.
+// The text of an answer with this look.
+fn text_with(alloc: Global, given: &Answered, look: Look) -> Result<Vec<u8>, AllocError>
+    ensures { IfOk result (λ text. text.items ≡ shown_as Text look given.now) }
+{
+    match look {
+        Look::Plain => text_in(alloc, given, Form::Text, RowOrder::Given),
+        Look::Terminal => text_in(alloc, given, Form::Text, RowOrder::ResetLast),
+        Look::Summary => summary_line(alloc, &Summary::of(given)),
+    }
+}
+
+// An answer in this form, with its rows in this order.
 fn text_in(
     alloc: Global,
     given: &Answered,
