@@ -52,11 +52,19 @@ reason_part summary (Some reason) = beside (reason_cell summary reason) (text (c
 abbrev pub entries_word : ℕ → List ℕ
 entries_word entries = if entries == 1 then codes " entry" else codes " entries"
 
+abbrev pub all_entries : ℕ → Cell Member
+all_entries entries = beside (count (codes ", ") entries) (text (entries_word entries))
+
+abbrev pub judged_entries : ℕ → ℕ → Cell Member
+judged_entries judged entries = in_order (
+    count (codes ", ") judged
+    ∷ count (codes " of ") entries
+    ∷ text (codes " entries judged")
+    ∷ [])
+
 -- How many entries are judged, as `412 entries` or `400 of 412 entries judged`.
 abbrev pub entries_cell : ℕ → ℕ → Cell Member
-entries_cell judged entries =
-    if judged == entries then beside (count (codes ", ") entries) (text (entries_word entries))
-    else in_order (count (codes ", ") judged ∷ count (codes " of ") entries ∷ text (codes " entries judged") ∷ [])
+entries_cell judged entries = if judged == entries then all_entries entries else judged_entries judged entries
 
 -- How many of them are of no known file, if there are some.
 abbrev pub unknown_part : ℕ → Cell Member

@@ -1,8 +1,8 @@
 //! A verdict in one line, in place of its report.
 
-ghost use Rattle.std.specs.Prelude.{◌≡◌, IfOk, Some};
+ghost use Rattle.std.specs.Prelude.{◌≡◌, ◌==◌, IfOk, Some};
 ghost use Rattle.cells.specs.Cells.{ShowsMembers, beside, text};
-ghost use Rattle.rendering.specs.SummaryLines.{aggregate_words, counts_cell, entries_cell, entries_word, outcome_word, pcr_cell, place_cell, reason_cell, reason_part, summary_cell, summary_line, unknown_part};
+ghost use Rattle.rendering.specs.SummaryLines.{aggregate_words, all_entries, counts_cell, entries_cell, entries_word, judged_entries, outcome_word, pcr_cell, place_cell, reason_cell, reason_part, summary_cell, summary_line, unknown_part};
 
 use crate::summary::{Outcome, Reason, Summary};
 use cells::{CellWriter, Form, Shown, Written};
@@ -135,14 +135,32 @@ fn show_counts(summary: &Summary, out: &mut CellWriter) -> Written
 fn show_entries(judged: usize, entries: usize, out: &mut CellWriter) -> Written
     ensures { ShowsMembers result out.old out.new (entries_cell judged entries) }
 {
-    if judged == entries {
-        out.count(", ", entries)?;
-        out.text(entries_word(entries))
+    if is_same(judged, entries) {
+        show_all_entries(entries, out)
     } else {
-        out.count(", ", judged)?;
-        out.count(" of ", entries)?;
-        out.text(" entries judged")
+        show_judged_entries(judged, entries, out)
     }
+}
+
+fn is_same(one: usize, other: usize) -> bool
+    ensures { result ≡ (one == other) }
+{
+    one == other
+}
+
+fn show_all_entries(entries: usize, out: &mut CellWriter) -> Written
+    ensures { ShowsMembers result out.old out.new (all_entries entries) }
+{
+    out.count(", ", entries)?;
+    out.text(entries_word(entries))
+}
+
+fn show_judged_entries(judged: usize, entries: usize, out: &mut CellWriter) -> Written
+    ensures { ShowsMembers result out.old out.new (judged_entries judged entries) }
+{
+    out.count(", ", judged)?;
+    out.count(" of ", entries)?;
+    out.text(" entries judged")
 }
 
 fn entries_word(entries: usize) -> &'static str
@@ -155,7 +173,7 @@ fn entries_word(entries: usize) -> &'static str
 fn show_unknown(unknown: usize, out: &mut CellWriter) -> Written
     ensures { ShowsMembers result out.old out.new (unknown_part unknown) }
 {
-    if unknown == 0 {
+    if is_same(unknown, 0) {
         return Ok(());
     }
     out.count(", ", unknown)?;
