@@ -8,6 +8,7 @@ use std::alloc::{AllocError, Global};
 
 /// The arguments, with `--terminal` after the name of a command that judges, unless one of them says how the verdict is shown. For a program whose
 /// standard output is a terminal.
+#[tactic(auto, using(crate::proofs::WordLemmas::some_argument))]
 pub fn as_on_terminal(alloc: Global, arguments: Vec<String>) -> Result<Vec<String>, AllocError>
     ensures { IfOk result (λ words. map string_bytes words.items ≡ as_on_terminal arguments.items) }
 {
@@ -19,6 +20,7 @@ pub fn as_on_terminal(alloc: Global, arguments: Vec<String>) -> Result<Vec<Strin
 }
 
 // The arguments with `--terminal` after the first.
+#[tactic(auto, using(crate::proofs::WordLemmas::inserted))]
 fn with_terminal(alloc: Global, mut arguments: Vec<String>) -> Result<Vec<String>, AllocError>
     requires { 1 ≤ vec_len arguments }
     ensures { IfOk result (λ words. map string_bytes words.items ≡ insert (map string_bytes arguments.items) 1 (codes "--terminal")) }
