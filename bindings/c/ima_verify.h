@@ -10,7 +10,7 @@
  *         .require = ima_verify_text("sha256:0-10"),
  *     };
  *     struct ima_verify_summary summary = {.size = sizeof summary};
- *     uint8_t report[4096];
+ *     uint8_t report[16384];  // no report without known files is longer
  *     struct ima_verify_output output = {.data = report, .capacity = sizeof report};
  *     if (ima_verify_verdict(&evidence, IMA_VERIFY_TEXT, &summary, &output) == IMA_VERIFY_DONE) ..
  *
