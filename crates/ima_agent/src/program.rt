@@ -23,8 +23,8 @@ use byte_streams::{Failed, Sink, send};
 use judging::{known_inputs, request_of, save_of};
 use measuring::measure;
 use rendering::{
-    Outcome, Output, Summary, json_fault_line, json_memory_line, output_for, print_measured,
-    status_of, write_fault,
+    Output, Summary, json_fault_line, json_memory_line, output_for, print_measured, status_of,
+    write_fault,
 };
 use run_progress::{Failure, NoProgress, Progress};
 use std::alloc::{AllocError, Global};
@@ -287,7 +287,7 @@ fn send_answer<F: AgentFiles, S: Sink, P: Progress>(
     }
 }
 
-// Sends the output of the answer to a question, and tells if no register was compared for a verdict.
+// Sends the output of the answer to a question, and tells if registers could be expected and none is.
 fn send_told<S: Sink, P: Progress>(
     alloc: Global,
     question: &Query,
@@ -305,11 +305,11 @@ fn send_told<S: Sink, P: Progress>(
     sent
 }
 
-// Tells if no register was compared for a verdict.
+// Tells if registers could be expected and none is.
 fn tell_compared<P: Progress>(alloc: Global, question: &Query, summary: &Summary, progress: &P) {
     if summary.compares_nothing() {
         progress.explain(alloc, Failure::NothingCompared);
-    } else if summary.verdict == Outcome::Differ && summary.compared == 0 {
+    } else if summary.compared == 0 && matches!(question, Query::Comparison(_)) {
         progress.explain(alloc, Failure::NothingToCompare { question });
     }
 }
