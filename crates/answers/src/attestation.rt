@@ -90,12 +90,7 @@ fn show_values(
 }
 
 // Shows that expected values are confirmed, and how their registers compare.
-fn show_confirmed(
-    alloc: Global,
-    rows: &[Row],
-    order: RowOrder,
-    out: &mut CellWriter,
-) -> Written
+fn show_confirmed(alloc: Global, rows: &[Row], order: RowOrder, out: &mut CellWriter) -> Written
     ensures { ShowsMembers result out.old out.new (values_cell order Confirmed rows.now) }
 {
     show_word("confirmed", out)?;

@@ -48,7 +48,11 @@ fn show_each<T: HasExpected + Says>(alloc: Global, rows: &[T], out: &mut CellWri
     Ok(())
 }
 
-pub(crate) fn show_row<T: HasExpected + Says>(alloc: Global, row: &T, out: &mut CellWriter) -> Written
+pub(crate) fn show_row<T: HasExpected + Says>(
+    alloc: Global,
+    row: &T,
+    out: &mut CellWriter,
+) -> Written
     ensures { ShowsItems result out.old out.new (object (row_cell (T.expected_of row.now) (T.said_of row.now))) }
 {
     let expected = row.expected();

@@ -14,11 +14,12 @@ ghost use Rattle.agent_plans.specs.declared.plan.Task.TheVariants.{Version};
 
 use crate::command_table::{KnownNames, all_commands};
 use crate::values::{
-    attest_of, boot_of, conversion_of, events_of, flag_of, key_of, known_of, log_of, look_for, look_of,
-    measurement_of, name_of, old_kernel_of, text_if_given,
+    attest_of, boot_of, conversion_of, events_of, flag_of, key_of, known_of, log_of, look_for,
+    look_of, measurement_of, name_of, old_kernel_of, text_if_given,
 };
 use agent_plans::{
-    ArgumentsFault, ComparisonKind, ComparisonOptions, Conversion, Form, Look, Plan, Query, Scope, Task,
+    ArgumentsFault, ComparisonKind, ComparisonOptions, Conversion, Form, Look, Plan, Query, Scope,
+    Task,
 };
 use clap::error::ErrorKind;
 use clap::{ArgMatches, Error};
@@ -491,17 +492,21 @@ fn replay_of(alloc: Global, matches: &ArgMatches, form: Form) -> Result<Query, A
     let explained = flag_of(matches, "explain", false, true)?;
     let look = look_of(matches, form)?;
     match (expected, required, known, explained, look) {
-        (Some(expected), required, known, explained, look) => Ok(Query::Comparison(ComparisonOptions {
-            kind,
+        (Some(expected), required, known, explained, look) => Ok(Query::Comparison(
+            ComparisonOptions {
+                kind,
+                list,
+                expected,
+                required,
+                known,
+                old_kernel: false,
+                explained,
+                look,
+            },
+        )),
+        (None, None, None, false, Look::Plain | Look::Terminal) => Ok(Query::ListRegisters {
             list,
-            expected,
-            required,
-            known,
-            old_kernel: false,
-            explained,
-            look,
-        })),
-        (None, None, None, false, Look::Plain | Look::Terminal) => Ok(Query::ListRegisters { list }),
+        }),
         (None, _, _, _, _) => Err(ArgumentsFault::Usage),
     }
 }

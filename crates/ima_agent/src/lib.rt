@@ -20,7 +20,8 @@ pub use agent_inputs::{
 };
 pub use agent_plans::{
     AttestOptions, ComparisonKind, ComparisonOptions, ConfirmedBy, Conversion, DataShown, Form,
-    LogFile, Look, Measurement, NameEnd, Names, Plan, Print, Query, Quoting, Scope, SigningOptions, Task,
+    LogFile, Look, Measurement, NameEnd, Names, Plan, Print, Query, Quoting, Scope, SigningOptions,
+    Task,
 };
 pub use answers::{write_positions, write_report};
 pub use boot_verdict::{

@@ -13,8 +13,8 @@ use crate::summary_lines::summary_line;
 use agent_inputs::{AgentFiles, RunFault, not_written};
 use agent_plans::Look;
 use answers::{
-    RowOrder, show_attestation, show_expected, show_key, show_list_report, show_positions, show_prefix,
-    show_registers, show_report,
+    RowOrder, show_attestation, show_expected, show_key, show_list_report, show_positions,
+    show_prefix, show_registers, show_report,
 };
 use byte_streams::Failed;
 use cells::{CellWriter, Form, Shown, Written};
@@ -213,12 +213,7 @@ impl Shown for ShownAnswer<'_> {
     }
 }
 
-fn show_answer(
-    alloc: Global,
-    given: &Answered,
-    order: RowOrder,
-    out: &mut CellWriter,
-) -> Written
+fn show_answer(alloc: Global, given: &Answered, order: RowOrder, out: &mut CellWriter) -> Written
     ensures { ShowsMembers result out.old out.new (answer_cell order given.now.is_success given.now.requirement given.now.unknown given.now.answer) }
 {
     let requirement = given.requirement.as_ref();
@@ -226,11 +221,26 @@ fn show_answer(
     match &given.answer {
         Answer::Attestation(report) => show_attestation(alloc, report, unknown, order, out),
         Answer::Report(report) => {
-            show_report(alloc, report, requirement, unknown, given.is_success, order, out)
+            show_report(
+                alloc,
+                report,
+                requirement,
+                unknown,
+                given.is_success,
+                order,
+                out,
+            )
         }
         Answer::Prefix(prefix) => show_prefix(alloc, prefix, requirement, unknown, order, out),
         Answer::Positions(positions) => show_positions(alloc, positions, requirement, out),
-        Answer::ListReport(report) => show_list_report(alloc, report, requirement, unknown, order, out),
+        Answer::ListReport(report) => show_list_report(
+            alloc,
+            report,
+            requirement,
+            unknown,
+            order,
+            out,
+        ),
         Answer::Registers(banks) => show_registers(alloc, &banks.now, &banks.start, out),
         Answer::Expected(expected) => show_expected(alloc, expected, out),
         Answer::Key { report, part } => show_key(alloc, report, *part, out),
