@@ -893,6 +893,11 @@ class Further(harness.TestCase):
         for words, like in shown_commands():
             found = run_on_terminal(words, self.room, subprocess.DEVNULL, subprocess.DEVNULL, lambda: os.dup2(2, 1))
             self.check(f"{words}, its output on a terminal", found, reference.answer(like, self.room))
+        names = "<LOG> <LIST> <EXPECTED>"
+        lacking = "".join(f"  {name}\n" for name in names.split())
+        text = f"error: the following required arguments were not provided:\n{lacking}\nUsage: ima-agent verify {names}\n{MORE}"
+        found = run_on_terminal(["verify"], self.room, subprocess.DEVNULL, subprocess.DEVNULL, lambda: os.dup2(2, 1))
+        self.check("a refusal, all on one terminal, of the arguments as they were given", found, (2, b"refused: command line\n" + text.encode()))
 
     def test_pace(self):
         """Measurements of pipes show each number in turn, from 1 on, after more than a second, and none before."""
