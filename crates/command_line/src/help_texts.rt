@@ -177,7 +177,8 @@ ima-agent attest --key ../keys/machine/machine.pub --signature quote.sig \\
 fn help_end_of_other<'a>(command: &str) -> &'a str {
     match command {
         "show" => help_end!("ima-agent show ima.list"; 0 "all output was written"; "list"),
-        "registers" => help_end!("ima-agent registers firmware.log"; 0 "all output was written"; "log"),
+        "registers" =>
+            help_end!("ima-agent registers firmware.log"; 0 "all output was written"; "log"),
         "expected" => help_end!(
             "ima-agent expected --registers sha256:0-10 pcrread.txt > expected.txt";
             0 "all output was written";
@@ -193,7 +194,8 @@ fn help_end_of_other<'a>(command: &str) -> &'a str {
             0 "all output was written; standard error says how much padding was cut";
             "log form"
         ),
-        "key" => help_end!("ima-agent key --print pem ak.pub > ak.pem"; 0 "all output was written"; "key"),
+        "key" =>
+            help_end!("ima-agent key --print pem ak.pub > ak.pem"; 0 "all output was written"; "key"),
         _ => help_end!(
             "ima-agent measure --print registers firmware.log /bin/sh /bin/ls";
             0 "all output was written";
