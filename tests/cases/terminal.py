@@ -308,8 +308,10 @@ def case_fault(command, folder, output):
     given = (folder / command.input).read_bytes() if command.input else None
     lines = [*said_anyway(command.words, text), *said_of_padding(command.words, folder, given or b"")] if status == 0 else []
     anyway = "".join(f"{line}\n" for line in lines).encode()
+    # (a case shows what comes elsewhere: of a difference only that no PCR was compared, which a terminal gets among the reasons)
+    alone = f"{NO_EXPECTED}\n".encode() if status == 1 and NO_EXPECTED in command.wanted else b""
     # (this may move the output away)
-    fault = fault_of(command, Answer(status, output, anyway), folder)
+    fault = fault_of(command, Answer(status, output, said if status >= 2 else anyway or alone), folder)
     if fault is not None:
         return f"the answer is another one:\n    {fault}"
     try:
@@ -398,6 +400,7 @@ def hinted_commands():
     yield "another value", ["verify", "firmware.log", "ima.list", "changed.txt"], 1, [changed]
     yield "a value that is missing", ["verify", "--require=sha256:10-10", "firmware.log", "ima.list", "four.txt"], 1, [lacks.format("sha256", 10)]
     yield "nothing expected", ["replay", "ima.list", "empty"], 1, [NO_EXPECTED]
+    yield "nothing to locate", ["locate", "firmware.log", "ima.list", "empty"], 1, [NO_EXPECTED]
     yield "a value of the log", ["replay", "ima.list", "four.txt"], 1, [
         "sha256 PCR 4 differs: replay reads no log; ima-agent verify does"]
     yield "no bank", ["verify", "firmware.log", "ima.list", "sha1.txt"], 1, [
@@ -778,7 +781,7 @@ class Further(harness.TestCase):
             command = Command(title, words, None, pipe_list if "/dev/stdin" in words else None)
             explained = command._replace(words=[words[0], "--explain", *words[1:]])
             plain = left_elsewhere(command, self.room)
-            anyway = f"{NO_EXPECTED}\n".encode() if NO_EXPECTED in hints and words[0] != "locate" else b""
+            anyway = f"{NO_EXPECTED}\n".encode() if NO_EXPECTED in hints else b""
             self.check(f"{title}, elsewhere", (plain.status, plain.said), (status, anyway))
             self.check(f"{title}, on a terminal", left_on_terminal(command, self.room), plain._replace(said=said))
             self.check(f"{title}, explained", left_elsewhere(explained, self.room), plain._replace(said=said))
