@@ -32,7 +32,7 @@ SELECT machine, algorithm, register, state, expected, value FROM registers
 WHERE state <> 'match' AND machine IN (SELECT machine FROM verdicts WHERE verdict = 'differ') ORDER BY machine, algorithm, register
 """
 _PREFIXES = "SELECT machine, confirmed, entries FROM prefixes"
-_MATCHING = "SELECT machine, matched FROM verdicts WHERE verdict = 'match'"
+_MATCHING = "SELECT machine, matched, signer IS NULL FROM verdicts WHERE verdict = 'match'"
 _UNQUOTED = "SELECT count(*) FROM verdicts WHERE verdict = 'match' AND signer IS NULL"
 _RETIRED = "SELECT machine, retired FROM retired ORDER BY retired"
 _LATE = "SELECT count(*) FROM verdicts WHERE poll IS NOT ? AND (poll IS NULL OR poll < ?)"
@@ -175,7 +175,7 @@ class Overview:
     alike: List[Group]
     changes: List[Change]
     bars: List[Bar]
-    matching: List[Tuple[str, Optional[str]]]
+    matching: List[Tuple[str, Optional[str], bool]]
     prefixes: List[Prefix]
 
     @property
