@@ -26,7 +26,7 @@ _AGGREGATES = {
     "missing": "The boot aggregate is missing: the list does not begin with one.",
 }
 _STATES = {
-    "differ": ("differs", "differ", "log and list make another value than the expected one"),
+    "differ": ("differs", "differ", "log and list make a value other than the expected one"),
     "missing": ("is missing", "are missing", "required, but expected.txt has no value"),
     "absent": ("is absent", "are absent", "the log has no such bank or PCR"),
 }
@@ -212,7 +212,7 @@ def _after_error(boot: Boot, criteria: Criteria, call: Call) -> Iterator[Step]:
     elif any(each.fault for each in sent):
         yield Step("Collect the files again:", again)
     elif boot.unread:
-        yield Step("Look at the names of the files in the call.")
+        yield Step("Check the file names in the command.")
     elif _NOT_STARTED in fault:
         yield Step("Install ima-agent, or name its file with --program.")
     elif "did not end within" in fault:
@@ -222,12 +222,12 @@ def _after_error(boot: Boot, criteria: Criteria, call: Call) -> Iterator[Step]:
     elif kind in ("key", "signature"):
         yield Step("Give the key that you enrolled for this machine, with --key.")
     elif kind == "known":
-        yield Step("Give what sha256sum printed, unchanged, with --known.")
+        yield Step("Give --known the unchanged output of sha256sum.")
     elif fault == _ARGUMENTS or kind == "command_line":
-        yield Step("See which arguments there are:", ("ima-report --help",))
+        yield Step("See the usage:", ("ima-report --help",))
     elif boot.word == "refused":
-        yield Step("If the files were not copied whole, or are from different times, collect again:", again)
+        yield Step("If the files were not copied whole, or at different times, collect again:", again)
         if kind in _MACHINE_S:
-            yield Step("If the error stays, the machine sends a changed or damaged file: do not trust the machine.")
+            yield Step("If the error persists, the machine sends a changed or damaged file: do not trust the machine.")
     else:
-        yield Step("Run the same command again. If the error stays, keep the folder, and report an error of ima-agent.")
+        yield Step("Run the same command again. If the error persists, keep the folder, and report a bug in ima-agent.")

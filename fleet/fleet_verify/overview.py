@@ -253,7 +253,7 @@ def _since_end(connection: sqlite3.Connection, ended: str, poll: Optional[int], 
         warnings.append(f"Poll {last} has not ended: it is running, or was stopped.")
     late = _number(connection, _LATE, poll, poll) if poll is not None else 0
     if late:
-        warnings.append(f"Older than poll {poll}, the last that ended: {late} verdicts.")
+        warnings.append(f"{late} {'verdict is' if late == 1 else 'verdicts are'} older than poll {poll}, the last one that ended.")
     # (a worker's clock may differ from the client's)
     later = (moment + timedelta(seconds=_SECONDS)).isoformat(timespec="milliseconds")
     if last == poll and _number(connection, "SELECT count(*) FROM verdicts WHERE time > ?", later):

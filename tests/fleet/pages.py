@@ -347,7 +347,7 @@ def test_states(tools, folder):
     match = {"a": answer_of("match", 1), "b": answer_of("match", 2)}
     differ = {**match, "b": answer_of("differ", 2, others=(4,))}
     old, to_come = "2026-01-01T00:00:00.000+00:00", "2999-01-01T00:00:00.000+00:00"
-    earlier = "Older than poll 2, the last that ended: 1 verdicts"
+    earlier = "1 verdict is older than poll 2, the last one that ended."
     calls, wanted = [], []
     for title, polls, edit, words, told, is_wanted in (
         ("all match", match, None, (), "All 2 machines match", True),

@@ -83,7 +83,7 @@ def matches():
 
 
 def differences():
-    other, lacks = "log and list make another value than the expected one", "the log has no such bank or PCR"
+    other, lacks = "log and list make a value other than the expected one", "the log has no such bank or PCR"
     grown = ("PCR 10 has its expected value after the first 99 of 100 entries: the list grew after the PCR was read, or the value is old. Judge that "
              "part, or collect again:")
     nowhere = "No part of the list makes the expected value of PCR 10: entries are missing, or were added or changed. Collect again:"
@@ -153,10 +153,10 @@ def other_differences(gone, ten_says, nowhere):
 
 
 def errors():
-    copied = ["If the files were not copied whole, or are from different times, collect again:", COLLECT, ""]
-    stays = ["If the error stays, the machine sends a changed or damaged file: do not trust the machine.", ""]
+    copied = ["If the files were not copied whole, or at different times, collect again:", COLLECT, ""]
+    stays = ["If the error persists, the machine sends a changed or damaged file: do not trust the machine.", ""]
     cut, gone, there = "refused: list fault 1 at entry 49", ["ima.list", 0, "", "it is not there", True], ["expected.txt", 9, "00", "", True]
-    again = ["Run the same command again. If the error stays, keep the folder, and report an error of ima-agent.", ""]
+    again = ["Run the same command again. If the error persists, keep the folder, and report a bug in ima-agent.", ""]
     new = ["Ask for a new quote with a new nonce, and judge by that nonce:", NONCE, SIGN, ""]
     return {
         "an error in words": (error(2, cut, "list", "entry 49: it is cut\nCopy it again."), ["entry 49: it is cut", "Copy it again."], [copied, stays]),
@@ -165,7 +165,7 @@ def errors():
         "an error of no known kind": (error(3, "failed: otherwise", "x"), ["ima-agent gives no verdict: it says no more."], [again]),
         "wrong arguments": (
             error(2, "refused: command line"), ["ima-agent gives no verdict: the arguments are wrong, or there are 2^32 FILEs or more."],
-            [["See which arguments there are:", "ima-report --help", ""]],
+            [["See the usage:", "ima-report --help", ""]],
         ),
         "a file that is not there": (error(3, "failed: read ima.list", "read", "cannot read ima.list", unread=[gone, there]),
                                      ["ima.list is not read: it is not there."], [["Collect the files again:", COLLECT, ""]]),
@@ -174,7 +174,7 @@ def errors():
             [["Is this the right folder? It has no file of a boot. If it is, collect them:", COLLECT, ""]],
         ),
         "a file of the operator": (error(2, "failed: read known0", "read", unread=[["k", *gone[1:4]]]), ["k is not read: it is not there."],
-                                   [["Look at the names of the files in the call.", ""]]),
+                                   [["Check the file names in the command.", ""]]),
         "no program": (error(3, "p cannot be started: no"), ["p cannot be started: no."], [["Install ima-agent, or name its file with --program.", ""]]),
         "a program that fails in lines": (error(3, "one\n\ntwo", "", "one\n\ntwo"), ["One", "two."], [again]),
         "a program that takes too long": (error(3, "the program did not end within 1 seconds"), ["The program did not end within 1 seconds."],
@@ -183,7 +183,7 @@ def errors():
         "another key": (error(4, "refused: signature fault 9", "signature", "not signed", given=BY_KEY), ["not signed"],
                         [["Give the key that you enrolled for this machine, with --key.", ""]]),
         "no digests": (error(2, "refused: known fault 2 at line 1", "known", "known1: no digest", given={"known": ["a", "b/c"]}), ["b/c: no digest"],
-                       [["Give what sha256sum printed, unchanged, with --known.", ""]]),
+                       [["Give --known the unchanged output of sha256sum.", ""]]),
         "a status of another verdict": ({**report("differ"), "status": 0}, ["The program's status 0 is not that of its report."], [again]),
     }
 

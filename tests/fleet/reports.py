@@ -162,7 +162,7 @@ def reports_of(tools, calls):
     return [(status, read(text), errors) for status, text, errors in texts_of(tools, calls)]
 
 
-OTHER_VALUE = "log and list make another value than the expected one"
+OTHER_VALUE = "log and list make a value other than the expected one"
 WRONG_AGGREGATE = "The boot aggregate is wrong: log and list are from different boots, or one of them was changed."
 # How a head looks: a match that is signed, one that is not, and no match.
 SIGNED, UNSIGNED, BAD = "state match", "state unquoted", "state"
@@ -738,7 +738,7 @@ def compared_in(page):
             break
         if each.tag == "h3":
             name = each.text.removeprefix("PCR ")
-        elif found := re.match("(The same|Unknown, as no value confirms them): PCRs? (.*)\\.$", each.text):
+        elif found := re.match("(The same|Unknown, because no value confirms them): PCRs? (.*)\\.$", each.text):
             said = {"The same": "no difference"}.get(found[1], "unknown")
             sentences.update({register: said for register in registers_in(found[2])})
         elif each.tag == "p" and name:
