@@ -220,7 +220,7 @@ class Boot:
         rows = {(row["bank"], row["register"]): row for row in report.get("registers", []) if self.report or row["register"] != OF_LIST}
         count = report.get("entries", 0)
         if "unconfirmed" in report:  # (`locate` takes no such list, and had an empty one)
-            end = {"place": "entry", "number": report["confirmed"] - 1} if report["confirmed"] else {}
+            end: Line = {"place": "entry", "number": report["confirmed"] - 1} if report["confirmed"] else {}
             places.update({name: end if row["state"] == "match" else {} for name, row in rows.items() if name[1] == OF_LIST})
         return [
             Reached(*name, row.get("state", ""), row.get("expected", ""), row.get("value", ""), *_place(places.get(name, {}), count))

@@ -260,7 +260,8 @@ def test_narrow(tools, folder, fleet, boot):
     words = ("--before", SAMPLES / "ovmf-boot/systemd-boot.log")
     earlier.write_text(report_text(tools, make_boot(folder / "of two boots"), *words, "--known", most_known(folder))[1])
     pages = {"a fleet": fleet, "hostile texts": boot, "two boots": earlier}
-    pages.update({f"{title}, without cards": changed(folder, re.sub('class="cards[^"]*"', "", pages[title].read_text())) for title in ("a fleet", "two boots")})
+    for title in ("a fleet", "two boots"):
+        pages[f"{title}, without cards"] = changed(folder, re.sub('class="cards[^"]*"', "", pages[title].read_text()))
     for title, (width, whole, _, beyond) in zip(pages, measured(tools, folder, [(page, PHONE) for page in pages.values()])):
         is_cut = "without" in title
         tools.check(f"on a phone: {title}", (width, whole > PHONE or bool(beyond)), (PHONE, is_cut))

@@ -159,7 +159,9 @@ def errors():
     again = ["Run the same command again. If the error persists, keep the folder, and report a bug in ima-agent.", ""]
     new = ["Ask for a new quote with a new nonce, and judge by that nonce:", NONCE, SIGN, ""]
     return {
-        "an error in words": (error(2, cut, "list", "entry 49: it is cut\nCopy it again."), ["entry 49: it is cut", "Copy it again."], [copied, stays]),
+        "an error in words": (
+            error(2, cut, "list", "entry 49: it is cut\nCopy it again."), ["entry 49: it is cut", "Copy it again."], [copied, stays],
+        ),
         "an error of expected PCRs": (error(2, "refused: expected fault 2 at line 25", "expected", "twice"), ["twice"], [copied]),
         "an error without words": (error(2, cut, "list"), ["ima-agent gives no verdict: a list is not valid."], [copied, stays]),
         "an error of no known kind": (error(3, "failed: otherwise", "x"), ["ima-agent gives no verdict: it says no more."], [again]),
@@ -182,8 +184,10 @@ def errors():
         "another nonce": (error(4, "refused: quote fault 11", "quote", "another", given=BY_KEY), ["another"], [new]),
         "another key": (error(4, "refused: signature fault 9", "signature", "not signed", given=BY_KEY), ["not signed"],
                         [["Give the key that you enrolled for this machine, with --key.", ""]]),
-        "no digests": (error(2, "refused: known fault 2 at line 1", "known", "known1: no digest", given={"known": ["a", "b/c"]}), ["b/c: no digest"],
-                       [["Give --known the unchanged output of sha256sum.", ""]]),
+        "no digests": (
+            error(2, "refused: known fault 2 at line 1", "known", "known1: no digest", given={"known": ["a", "b/c"]}), ["b/c: no digest"],
+            [["Give --known the unchanged output of sha256sum.", ""]],
+        ),
         "a status of another verdict": ({**report("differ"), "status": 0}, ["The program's status 0 is not that of its report."], [again]),
     }
 
