@@ -432,8 +432,8 @@ def hinted_commands():
     yield "a longer list with an entry of PCR 11", ["verify", "firmware.log", "both.list", "expected.txt"], 1, [
         earlier, eleven, changed.replace("PCR 4", "PCR 11")]
     yield "where a value of the log is", ["locate", "firmware.log", "ima.list", "changed.txt"], 1, [
-        f"sha256 PCR 4 never has its value: {OTHER_BOOT}"]
-    sha1 = re.sub("a kernel .* them, ", "", earlier.replace("sha256", "sha1"))
+        f"sha256 PCR 4 never has the expected value: {OTHER_BOOT}"]
+    sha1 = re.sub("a kernel .* digests, ", "", earlier.replace("sha256", "sha1"))
     yield "another value of SHA-1", ["replay", "ima.list", "sha1.ten.txt"], 1, [sha1]
     unknown = ("entry 93 is the first that matches no known digest: ima-agent show names its file; compare that with the file in its package")
     yield "files that are not known", ["verify", "--require=sha256:0-10", "--known=known", *judged], 1, [unknown]

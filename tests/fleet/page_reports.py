@@ -195,5 +195,5 @@ def test_refused(tools, folder, program):
         tools.check(f"no page with reports: {title}", (status, text, wanted[1] in errors), (wanted[0], "", True))
     change(table, "UPDATE found SET log = CAST(x'2f00' AS TEXT), machine = 'x' || CAST(x'00' AS TEXT)")
     status, text, errors = page_of(tools, "--reports", folder / "zeros", "--program", program, table)
-    tools.check("zeros in a path: a page without a report", (status, "0 machines have a report" in text, errors), (0, True, ""))
+    tools.check("zeros in a path: a page without a report", (status, "0 machines have their own reports" in text, errors), (0, True, ""))
     tools.check("rows below are there", len(rows_below(Reader(text).top, "Machines that do not match")), 1)
