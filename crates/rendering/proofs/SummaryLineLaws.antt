@@ -1,5 +1,5 @@
 -- What a line of a verdict begins with.
-use Rattle.std.proofs.Common.{◌≡◌, ℕ, List, ◌++◌, codes, refl}
+use Rattle.std.proofs.Common.{◌≡◌, ℕ, List, ◌++◌, codes, get_or, refl, ap, arith}
 use Rattle.cells.specs.Cells.{beside}
 use Rattle.rendering.specs.declared.summary.Outcome.{Outcome}
 use Rattle.rendering.specs.declared.summary.Outcome.TheVariants.{NoVerdict, Match, Differ}
@@ -13,8 +13,12 @@ begins_with_word summary = (_, refl)
 -- Only the word of a match begins as it does.
 word_of_match : (verdict : Outcome) (said rest : List ℕ) → outcome_word verdict ++ said ≡ codes "match" ++ rest → verdict ≡ Match
 word_of_match Match said rest same = refl
-word_of_match Differ said rest same = cc
-word_of_match NoVerdict said rest same = cc
+word_of_match Differ said rest same =
+    let first : 100 ≡ 109 = ap (λ (t : List ℕ). get_or t 0 0) same in
+    absurd (omega (arith, first))
+word_of_match NoVerdict said rest same =
+    let first : 110 ≡ 109 = ap (λ (t : List ℕ). get_or t 0 0) same in
+    absurd (omega (arith, first))
 
 pub match_alone : (summary : Summary) (rest : List ℕ) → summary_line summary ≡ codes "match" ++ rest → summary.verdict ≡ Match
 unfolding beside
