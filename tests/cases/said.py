@@ -197,6 +197,8 @@ def fault_line_of(words, text):
     if text.startswith((b"refused: ", b"failed: ")):
         return text[:-1]
     last = text.splitlines()[-1] if words[:1] in (["show"], ["events"]) and text else text
+    if "--partial" in words and last.startswith((b"refused: ", b"failed: ")):
+        return last
     return json.loads(last)["fault"]["message"].encode() if last.startswith(b'{"fault":') else None
 
 
