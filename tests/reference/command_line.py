@@ -66,6 +66,9 @@ ONLY_BESIDE_QUOTE = {**BESIDE_QUOTE, "--sha1": Option(FLAG, False), OLD_KERNEL: 
 # What tells which data of a log is confirmed.
 CONFIRMING = {"--expected": Option(str, None), "--quote": Option(str, None), **ONLY_BESIDE_QUOTE}
 
+# When a report has colours.
+COLOR = {"--color": Option(one_of("auto", "always", "never"), "auto")}
+
 # Whether the H-CRTM event of a log tells where the machine started.
 HCRTM = {"--hcrtm": Option(FLAG, False)}
 
@@ -90,6 +93,7 @@ COMMANDS = {
         "--save": Option(str, None),
         "--resume": Option(str, None),
         EXPLAIN: Option(FLAG, False),
+        **COLOR,
         "--json": Option(FLAG, False),
     }),
     "attest": Command(3, 4, {
@@ -104,9 +108,10 @@ COMMANDS = {
         "--save": Option(str, None),
         "--resume": Option(str, None),
         EXPLAIN: Option(FLAG, False),
+        **COLOR,
         "--json": Option(FLAG, False),
     }),
-    "locate": Command(3, 3, {**HCRTM, "--require": Option(str, None), EXPLAIN: Option(FLAG, False), "--json": Option(FLAG, False)}),
+    "locate": Command(3, 3, {**HCRTM, **COLOR, "--require": Option(str, None), EXPLAIN: Option(FLAG, False), "--json": Option(FLAG, False)}),
     "expected": Command(1, 1, {"--registers": Option(str, "all"), "--json": Option(FLAG, False)}),
     "key": Command(1, 1, {
         "--endorsement": Option(FLAG, False),
@@ -134,6 +139,7 @@ COMMANDS = {
         "--require": Option(str, None),
         KNOWN: Option(str, [], is_repeated=True),
         EXPLAIN: Option(FLAG, False),
+        **COLOR,
         "--json": Option(FLAG, False),
     }),
 }

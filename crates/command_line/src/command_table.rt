@@ -146,6 +146,9 @@ const EXPLAIN: ArgumentRow<'static> = row!("explain"; ArgumentForm::Flag);
 /// Whether the H-CRTM's event tells where the machine started.
 const HCRTM: ArgumentRow<'static> = row!("hcrtm"; ArgumentForm::Flag);
 
+/// When the result is coloured.
+const COLOR: ArgumentRow<'static> = row!("color"; ArgumentForm::Defaulted("WHEN", "auto", Values::Parsed(ValueParser::Names(&["auto", "always", "never"]))));
+
 /// Whether the result is printed as JSON.
 const JSON: ArgumentRow<'static> = row!("json"; ArgumentForm::Flag);
 
@@ -158,8 +161,8 @@ static COMMANDS: [CommandRow; 13] = [
         name: "verify",
         about: with_abouts!(; verify),
         arguments: &[
-            REQUIRE, OLD_KERNEL, KNOWN, PREFIX, SAVE, RESUME, HCRTM, EXPLAIN, JSON, QUIET, LOG,
-            LIST, EXPECTED,
+            REQUIRE, OLD_KERNEL, KNOWN, PREFIX, SAVE, RESUME, HCRTM, EXPLAIN, COLOR, JSON, QUIET,
+            LOG, LIST, EXPECTED,
         ],
     },
     CommandRow {
@@ -179,6 +182,7 @@ static COMMANDS: [CommandRow; 13] = [
             RESUME,
             HCRTM,
             EXPLAIN,
+            COLOR,
             JSON,
             QUIET,
             LOG,
@@ -194,6 +198,7 @@ static COMMANDS: [CommandRow; 13] = [
             row!("require"; ArgumentForm::OptionalBeside("SELECTION", "EXPECTED")),
             KNOWN,
             row!("explain"; ArgumentForm::FlagBeside("EXPECTED")),
+            COLOR,
             JSON,
             QUIET,
             LIST,
@@ -203,7 +208,9 @@ static COMMANDS: [CommandRow; 13] = [
     CommandRow {
         name: "locate",
         about: with_abouts!(; locate),
-        arguments: &[REQUIRE, HCRTM, EXPLAIN, JSON, QUIET, LOG, LIST, EXPECTED],
+        arguments: &[
+            REQUIRE, HCRTM, EXPLAIN, COLOR, JSON, QUIET, LOG, LIST, EXPECTED,
+        ],
     },
     CommandRow {
         name: "boot",

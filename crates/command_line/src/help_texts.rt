@@ -226,6 +226,7 @@ pub(crate) fn help_of<'a>(command: &str, id: &str) -> &'a str {
         "known" => help_of_known(command),
         "hcrtm" => "An H-CRTM event of LOG tells that PCR 0 began at 4",
         "explain" => help_of_explain(command),
+        "color" => "When the verdict and states have colours\n",
         "json" => help_of_json(command),
         "quiet" => "Say nothing on standard error",
         "nonce" => "The quote's nonce, in hexadecimal, 16 bytes or more",

@@ -6,4 +6,4 @@ mod command_table;
 mod help_texts;
 mod values;
 
-pub use arguments::{arguments_after_name, asks_quiet, read_words, refusal_of};
+pub use arguments::{arguments_after_name, asks_quiet, color_choice, read_words, refusal_of};

@@ -27,7 +27,7 @@ pub use boot_verdict::{
     Aggregate, Located, Position, Report, Requirement, Row, State, VerifyFault, all_found,
     list_start, locate, locate_from, replay_from, required_found, verify, verify_from,
 };
-pub use command_line::{arguments_after_name, asks_quiet};
+pub use command_line::{arguments_after_name, asks_quiet, color_choice};
 pub use event_lines::write_events;
 pub use measuring::FileProgress;
 pub use pcr_values::{

@@ -2,11 +2,14 @@
 #![tactic(auto)]
 
 use hints::{Audience, SystemProgress};
-use ima_agent::{Listener, SystemFiles, WriteSink, arguments_after_name, asks_quiet, exit_code};
+use ima_agent::{
+    Listener, SystemFiles, WriteSink, arguments_after_name, asks_quiet, color_choice, exit_code,
+};
 use std::io::IsTerminal;
 use std::process::ExitCode;
 use std::rt::Env;
 use std::{env, io};
+use terminal_colors::{ColorChoice, ColorSink, is_colored};
 
 /// The arguments after the program's name. Fails if memory runs out, or if one is not UTF-8.
 fn arguments(rt: &(impl Env + AllocGlobal)) -> io::Result<Vec<String>> {
@@ -21,9 +24,23 @@ fn are_quiet(arguments: &io::Result<Vec<String>>) -> bool {
     }
 }
 
+// When these arguments ask for colours.
+fn colors_of(arguments: &io::Result<Vec<String>>) -> ColorChoice {
+    match arguments {
+        Ok(arguments) => color_choice(arguments),
+        Err(_) => ColorChoice::Never,
+    }
+}
+
 fn main(rt: HostRuntime) -> ExitCode {
     let arguments = arguments(&rt);
-    let mut output = WriteSink::new(rt.stdout());
+    let colors = is_colored(
+        colors_of(&arguments),
+        rt.stdout().is_terminal(),
+        &env::var(&rt, "NO_COLOR"),
+        &env::var(&rt, "TERM"),
+    );
+    let mut output = ColorSink::new(WriteSink::new(rt.stdout()), colors);
     let audience = Audience {
         types: rt.stdin().is_terminal(),
         listener: Listener::of(rt.stderr().is_terminal(), are_quiet(&arguments)),
