@@ -8,9 +8,6 @@ ghost use Rattle.terminal_colors.specs.Lines.{colored, colored_at, colored_line,
 use crate::states::{State, state_at};
 use byte_streams::{Failed, Sink, send, send_pieces};
 
-// The sequence that ends a colour.
-const RESET: &[u8] = b"\x1b[0m";
-
 /// Sends the text, with a colour for the states on its lines.
 pub fn send_colored<S: Sink>(text: &[u8], sink: &mut S) -> Result<(), Failed>
     ensures { Sends (S.state sink.old) (S.state sink.new) result (colored text.now) }
@@ -46,7 +43,7 @@ fn send_marked<S: Sink>(
 {
     let (label, rest) = line.split_at(start);
     let (words, after) = rest.split_at(state.text().len() - 1);
-    send_pieces(&[label, state.sequence(), words, RESET, after], sink)
+    send_pieces(&[label, state.sequence(), words, b"\x1b[0m", after], sink)
 }
 
 // Where the line's state begins, and which it is: at the line's start, or after one or two words.

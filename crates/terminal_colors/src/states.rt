@@ -141,7 +141,7 @@ impl State {
     }
 
     /// The sequence that begins the words' colour.
-    pub(crate) fn sequence(self) -> &'static [u8]
+    pub(crate) fn sequence<'a>(self) -> &'a [u8]
         ensures { result.now ≡ sequence_of (style_of self) }
     {
         self.style().sequence()
@@ -163,7 +163,7 @@ pub(crate) enum Style {
 
 impl Style {
     // The sequence that begins it.
-    fn sequence(self) -> &'static [u8]
+    fn sequence<'a>(self) -> &'a [u8]
         ensures { result.now ≡ sequence_of self }
     {
         match self {
