@@ -10,26 +10,26 @@
  *         .require = ima_verify_text("sha256:0-10"),
  *     };
  *     struct ima_verify_summary summary = {.size = sizeof summary};
- *     uint8_t report[4096];
+ *     uint8_t report[16384];  // no report without known files is longer
  *     struct ima_verify_output output = {.data = report, .capacity = sizeof report};
  *     if (ima_verify_verdict(&evidence, IMA_VERIFY_TEXT, &summary, &output) == IMA_VERIFY_DONE) ..
  *
- * A function gives the text that the program `ima-agent` prints for the command of the same name, or with
- * IMA_VERIFY_JSON the lines that it prints with --json. Inputs may also be longer than 64 MiB. The pages formats.md,
- * event-data.md and json.md describe the formats, verdict.md what a verdict means, and errors.txt what each error
- * number means.
+ * Most functions give the text that the program `ima-agent` prints for the command of the same name (ima_verify(3) has
+ * the exceptions), or with IMA_VERIFY_JSON the lines that it prints with --json. Inputs may also be longer than 64 MiB.
+ * The pages formats.md, event-data.md and json.md describe the formats, verdict.md what a verdict means, and errors.txt
+ * what each error number means.
  *
  * ima_verify_convert converts inputs in other forms, such as the kernel's list as text.
  *
  * A verdict covers only the boot aggregate and the expected PCRs: `require` says which PCRs these must include. A
- * verdict on no PCR is never a match. With a requirement a verdict is `match` only if no event of the log extends PCR
- * 10 and every entry of the list extends PCR 10; otherwise the report has a line such as `event 31 extends 10` or
- * `entry 17 extends 11`. With `checks_known` the entries must also be for known files.
+ * verdict that compares no PCR is never a match. With a requirement a verdict is `match` only if no event of the log
+ * extends PCR 10 and every entry of the list extends PCR 10; otherwise the report has a line such as `event 31 extends
+ * 10` or `entry 17 extends 11`. With `checks_known` the entries must also be for known files.
  *
  * Pointers. A NULL pointer must have the size 0; otherwise the function returns IMA_VERIFY_MISUSED. Nothing may change
- * an input during a call, as another process may change a mapped file: the bytes whose signature is verified would not
- * be those that are judged. Inputs may overlap each other, and calls may share them. Outputs may overlap nothing else
- * that a call is given.
+ * an input during a call, as another process may change a mapped file: otherwise the bytes whose signature is verified
+ * might not be those that are judged. Inputs may overlap each other, and calls may share them. Outputs may overlap
+ * nothing else that a call is given.
  *
  * Memory. A call allocates with malloc and realloc, and frees everything before it returns. If you replace one of
  * malloc, realloc and free, replace all three. A call keeps no events or entries except in the text that it gives. It
@@ -64,17 +64,17 @@ extern "C" {
 /* What a function returns. */
 enum ima_verify_result {
     /* The text is complete. A verdict is `match`, and with a quote its signature is valid, or the caller checked it.
-     * For places, some PCR is expected, every value was reached, and none is missing. For entries or events, these are
-     * the last. */
+     * For ima_verify_locate, some PCR is expected, every value was reached, and none is missing. For entries or events,
+     * these are the last. */
     IMA_VERIFY_DONE = 0,
-    /* The text is complete. A verdict is `differ`, or a quote's signature was not checked. For places, no PCR is
-     * expected, a value was not reached, or one is missing. For a boot and for the last events, the verdict by the
-     * quote is not `match`, and nothing is confirmed. */
+    /* The text is complete. A verdict is `differ`, or a quote's signature was not checked. For ima_verify_locate, no
+     * PCR is expected, a value was not reached, or one is missing. For a boot and for the last events, the verdict by
+     * the quote is not `match`, and nothing is confirmed. */
     IMA_VERIFY_DIFFERS = 1,
     /* An input is refused: `error` says why, and the text is the line that says so, such as `refused: log fault 1 at
      * event 0`. As JSON it is an object with the member `fault`, which no other line has. */
     IMA_VERIFY_REFUSED = 2,
-    /* Memory ran out: the text is the line `failed: memory`, or the same as JSON. */
+    /* Memory ran out: the text is the line `failed: memory`, or that line as JSON. */
     IMA_VERIFY_OUT_OF_MEMORY = 3,
     /* The capacity is too small for the text, and nothing was written: `size` says how much is needed. Call again in a
      * loop, since the next text may need more. */
@@ -127,7 +127,7 @@ enum ima_verify_error_kind {
     IMA_VERIFY_KNOWN = 10,
     /* The signature of the quote's message: it is invalid (1 to 4), its scheme (5) or its hash (6) is not the key's, or
      * the key did not sign this message (7). Or the library verifies no signatures by such a key (8), or a PEM is not
-     * the text that ima_verify_key gives for a key that it takes (9). */
+     * the text that ima_verify_key gives for a key that it accepts (9). */
     IMA_VERIFY_SIGNATURE = 11,
     /* The text of a measurement list, for ima_verify_convert. The place is a line; the first is 1. */
     IMA_VERIFY_TEXT_LIST = 12,
@@ -138,7 +138,7 @@ enum ima_verify_error_kind {
 /* Stands for no place in an error, and for no PCR in a summary. */
 #define IMA_VERIFY_NO_PLACE UINT64_MAX
 
-/* A checkpoint has fewer bytes than this, and so has the text of matching PCRs. */
+/* A checkpoint has fewer bytes than the first, and the text of matching PCRs has fewer than the second. */
 #define IMA_VERIFY_CHECKPOINT_CAPACITY 20000
 #define IMA_VERIFY_MATCHING_CAPACITY 2048
 
@@ -190,11 +190,11 @@ struct ima_verify_evidence {
     bool checks_known;
     /* Whether PCR 0 starts at 4 if the log has an event of type EV_EFI_HCRTM_EVENT in PCR 0 and none with a locality:
      * an H-CRTM measured before the TPM was started (TPM 2.0 Library, part 1, 34.3). If it is `false` (the default),
-     * only a locality counts. For a boot and its events this is a parameter, and that of a quote is ignored. */
+     * only a locality counts. For a boot and its events this is a parameter, and the member of a quote is ignored. */
     bool hcrtm;
     /* Whether a boot aggregate over PCRs 0 to 7 is accepted, as kernels before 5.8 make it; the report then says
      * `boot_aggregate old_kernel`. It counts for ima_verify_verdict and ima_verify_more, if `require` names PCRs, and
-     * is ignored by the others. If it is `false` (the default), none is accepted. */
+     * is ignored by the others. If it is `false` (the default), no such aggregate is accepted. */
     bool old_kernel;
 };
 
@@ -222,7 +222,7 @@ struct ima_verify_quoted {
      * cannot (ima_verify_evp.h verifies some). `key` and `signature` then have no bytes. If they have none and this is
      * `false` (the default), nothing is attested, and the report ends in `signature not checked`. */
     bool signature_checked;
-    /* As in struct ima_verify_evidence; by a quote `old_kernel` always counts. */
+    /* As in struct ima_verify_evidence; for a quote `old_kernel` always counts. */
     struct ima_verify_bytes known;
     bool checks_known, hcrtm, old_kernel;
 };
@@ -305,7 +305,7 @@ uint32_t ima_verify_version(void);
  * further down, which call these. Names, parameters and meanings stay the same in each library named
  * libima_verify.so.1. The rules are:
  *
- * - Bytes are a pair of a pointer and a size. No pointer is NULL, even if the size is 0. The pointer `numbers` is
+ * - Bytes are passed as a pointer and a size. No pointer is NULL, even if the size is 0. The pointer `numbers` is
  *   aligned.
  * - A `bool` is a byte, 0 or 1. `json` requests JSON. Other parameters, such as `prefix`, are those of the functions
  *   further down.
@@ -537,7 +537,7 @@ ima_verify_replay(const struct ima_verify_evidence *evidence, enum ima_verify_fo
  * one.
  *
  * The first error is reported, in this order: `require`, the expected PCRs, the text of the checkpoint (`refused:
- * checkpoint fault 1` or `2`), the known files, the log, whether the checkpoint is of this boot (`refused: checkpoint
+ * checkpoint fault 1` or `2`), the known files, the log, whether the checkpoint is from this boot (`refused: checkpoint
  * fault 3`), the list, whether each template digest matches. (If 64 MiB would not fit between the list and 2^63 bytes,
  * it is IMA_VERIFY_OUT_OF_MEMORY.) A checkpoint is trusted: whoever can write it can choose the verdict. Give only what
  * this function gave. */
@@ -561,9 +561,9 @@ ima_verify_more(const struct ima_verify_evidence *evidence, struct ima_verify_by
 
 /* The verdict by a quote on a log and a list that grows, and in `next` the checkpoint from which the next call
  * continues. `state`, `prefix` and `next` are as for ima_verify_more, and the two functions take each other's
- * checkpoints. But a quote continues only from a checkpoint that a quote confirmed, with the TPM's counts of resets and
- * restarts of the new quote: otherwise it is of another boot (`refused: checkpoint fault 4`). After a suspend the count
- * of restarts differs, so start again with the whole list.
+ * checkpoints. But a quote continues only from a checkpoint that a quote confirmed, with the same counts of resets and
+ * restarts as the new quote: otherwise it is from another boot (`refused: checkpoint fault 4`). After a suspend the
+ * count of restarts differs, so start again with the whole list.
  *
  * The key must have signed the message, which must have the nonce and select each PCR in `require`. IMA_VERIFY_DONE if
  * the message has the digest of the values to which log and list replay, the boot aggregate is good, no event of the
@@ -573,13 +573,13 @@ ima_verify_more(const struct ima_verify_evidence *evidence, struct ima_verify_by
  * the quote's PCR values.
  *
  * The library verifies signatures by RSA keys of 2048 to 4096 bits (RSASSA and RSAPSS) and by keys on P-256 and P-384
- * (ECDSA), with SHA-256, SHA-384 and SHA-512. A key's public area states its scheme and hash; a PEM does not, and each
+ * (ECDSA), with SHA-256, SHA-384 and SHA-512. A key's public area states its scheme and hash; a PEM does not, and any
  * is accepted. A key that is not restricted, or that was imported into the TPM, also signs messages that no TPM made.
- * Its public area is refused, but a PEM does not say so.
+ * Its public area is refused, but a PEM does not show this.
  *
  * The first error is reported, in this order: `require` and the nonce, the key (`refused: key fault 1` to `20`,
  * `refused: signature fault 8` or `9`), the signature (`refused: signature fault 1` to `7`), the message (`refused:
- * quote fault 1` to `12`), the text of the checkpoint (`refused: checkpoint fault 1` or `2`), whether it is of the
+ * quote fault 1` to `12`), the text of the checkpoint (`refused: checkpoint fault 1` or `2`), whether it is from the
  * quote's boot (`refused: checkpoint fault 4`), the known files, the log, whether the log is that of the checkpoint
  * (`refused: checkpoint fault 3`), the list, whether each template digest matches. */
 IMA_VERIFY_USE_RESULT static inline enum ima_verify_result
@@ -617,9 +617,9 @@ ima_verify_attest(const struct ima_verify_quoted *quoted, enum ima_verify_form f
 /* ---- PCR values and keys */
 
 /* The expected PCR values in a text that tpm2_pcrread or tpm2_checkquote printed: those of the selection `registers`,
- * such as `sha256:0-10` or `0-7,10`, or without bytes all. A text without any is refused. A wrong selection is refused
- * before the text. Nothing says who wrote the text, nor whether a quote is valid: tpm2_checkquote prints the same for a
- * quote that it refuses. */
+ * such as `sha256:0-10` or `0-7,10`, or all if it has no bytes. A text without any such value is refused. A wrong
+ * selection is refused before the text. Nothing says who wrote the text, nor whether a quote is valid: tpm2_checkquote
+ * prints the same for a quote that it refuses. */
 IMA_VERIFY_USE_RESULT static inline enum ima_verify_result
 ima_verify_expected(struct ima_verify_bytes printed, struct ima_verify_bytes registers, enum ima_verify_form form,
                     struct ima_verify_output *output) {
@@ -654,11 +654,11 @@ ima_verify_registers(enum ima_verify_origin origin, struct ima_verify_bytes byte
         IMA_VERIFY_OUT(output), &info));
 }
 
-/* What a key of a TPM is for. */
+/* What a TPM's key is for. */
 enum ima_verify_purpose {
     /* It signs quotes: it is restricted, does not decrypt, and has a signing scheme by SHA-256, SHA-384 or SHA-512. */
     IMA_VERIFY_ATTESTATION = 0,
-    /* Credentials are made to it: it is restricted, decrypts, and does not sign. */
+    /* Credentials are made for it: it is restricted, decrypts, and does not sign. */
     IMA_VERIFY_ENDORSEMENT = 1
 };
 
@@ -668,7 +668,7 @@ enum ima_verify_purpose {
  * (`refused: key fault 1` to `22`).
  *
  * A public area does not say whose TPM the key is in, and anyone can write one. Accept the PEM of an attestation key
- * only after activating a credential that was made to this name and to the machine's endorsement key, as `ima-enroll`
+ * only after activating a credential that was made for this name and for the machine's endorsement key, as `ima-enroll`
  * does. */
 IMA_VERIFY_USE_RESULT static inline enum ima_verify_result
 ima_verify_key(struct ima_verify_bytes area, enum ima_verify_purpose purpose, enum ima_verify_form form,

@@ -1,4 +1,4 @@
-/* Verifies a quote's signature with libcrypto, by keys that libima_verify does not accept, such as those on P-521.
+/* Verifies a quote's signature with libcrypto, for keys that libima_verify does not accept, such as those on P-521.
  *
  * Optional: include it and link with -lcrypto (OpenSSL 1.1.1 or later). If the function returns `true`, give ima_verify_attest neither key nor
  * signature, and set `signature_checked`. Nothing here is proved. A PEM does not say what a key signs: use the PEM and the hash that ima_verify_key

@@ -109,7 +109,7 @@ class Judgement(NamedTuple):
 
     @property
     def is_on_prefix(self) -> bool:
-        """Whether entries follow those that the report is on, or bytes that are no entry."""
+        """Whether entries follow those that the report is on, or bytes that are not an entry."""
         report = self.report
         return "unconfirmed" in report or report.get("confirmed", report.get("entries")) != report.get("entries")
 

@@ -19,8 +19,8 @@ _CODES = ("refused: ", "failed: ")
 _ARGUMENTS = "refused: command line"
 
 _AGGREGATES = {
-    "wrong": "The boot aggregate is wrong: log and list are of different boots, or one of them was changed.",
-    "nobank": "The boot aggregate is not checked: the log has no bank for it, so nothing says that log and list are of one boot.",
+    "wrong": "The boot aggregate is wrong: log and list are from different boots, or one of them was changed.",
+    "nobank": "The boot aggregate is not checked: the log has no bank for it, so nothing says that log and list are from one boot.",
     "missing": "The boot aggregate is missing: the list does not begin with one.",
 }
 _STATES = {
@@ -145,7 +145,7 @@ def _after_difference(boot: Boot, criteria: Criteria, call: Call) -> Iterator[St
     if others:
         yield _about_log(others, criteria, call)
     if boot.report.get("boot_aggregate", "good") not in GOOD_AGGREGATES:
-        yield Step("Log and list must be of one boot. Collect both again:", _collecting(criteria))
+        yield Step("Log and list must be from one boot. Collect both again:", _collecting(criteria))
     states = {row.state for row in boot.registers}
     if "missing" in states:
         yield Step("Collect the required PCRs, or require others with --require.")
@@ -155,7 +155,7 @@ def _after_difference(boot: Boot, criteria: Criteria, call: Call) -> Iterator[St
         yield Step("Look at the unknown files. Add the digests of those that you know:", (call.again("--known", "/PATH/OF/MORE_SHA256SUMS"),), "unknown")
     if boot.report.get("extends"):
         part = "events" if any("event" in each for each in boot.report["extends"]) else "entries"
-        yield Step("Look at this event or entry: nothing tells which of log and list extended its PCR.", part=part)
+        yield Step("Look at this event or entry: nothing shows whether log or list extended its PCR.", part=part)
 
 
 def _about_list(rows: Sequence[Reached], boot: Boot, criteria: Criteria, call: Call) -> Iterator[Step]:
@@ -183,7 +183,7 @@ def _about_list(rows: Sequence[Reached], boot: Boot, criteria: Criteria, call: C
 
 
 def _about_log(numbers: Sequence[int], criteria: Criteria, call: Call) -> Step:
-    text = f"{pcrs(numbers)}: the log is of another boot, incomplete or changed."
+    text = f"{pcrs(numbers)}: the log is from another boot, incomplete or changed."
     if criteria.before is None:
         return Step(f"{text} Compare with an earlier boot:", (call.again("--before", "EARLIER_FOLDER"),))
     return Step(f"{text} Look at what differs from the earlier boot:", part="before")
@@ -208,6 +208,6 @@ def _after_error(boot: Boot, criteria: Criteria, call: Call) -> Iterator[Step]:
     elif fault == _ARGUMENTS or kind == "command_line":
         yield Step("See which arguments there are:", ("ima-report --help",))
     elif boot.word == "refused":
-        yield Step("If the files were not copied whole, or are of different times, collect again:", again)
+        yield Step("If the files were not copied whole, or are from different times, collect again:", again)
     else:
         yield Step("Run the same command again. If the error stays, keep the folder, and report an error of ima-agent.")

@@ -28,7 +28,7 @@ BYTES = 32
 # How many seconds after its nonce was given out a quote may come, unless --max-age says otherwise.
 MAX_AGE = 3600.0
 
-# Those that are too old, or of a time to come, go; but not the last that a machine used, by which its quote is known as an old one.
+# Those that are too old, or from the future, go; but not the last that a machine used, by which its quote is known as an old one.
 FORGET = """
 DELETE FROM nonces WHERE (julianday(:time) - julianday(given_out)) * 86400 NOT BETWEEN 0 AND max_age
     AND (used IS NULL OR used < (SELECT max(last.used) FROM nonces AS last WHERE last.machine = nonces.machine))

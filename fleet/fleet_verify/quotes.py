@@ -28,7 +28,7 @@ MOST_KEY_BYTES = 16 * 1024
 KEY_FILES = ("NAME.pub", "NAME/NAME.pub", "NAME.pem", "NAME/NAME.pem")
 
 # Why an answer by a quote is not recorded as it came.
-TOO_OLD = "stale: the nonce of its quote is older than --max-age, or of a time to come"
+TOO_OLD = "stale: the nonce of its quote is older than --max-age, or from the future"
 NO_LONGER = "stale: another verdict used the nonce of its quote, or it is given out no longer"
 
 _OF_VERDICT = (

@@ -20,21 +20,21 @@ from .reading import cause_of, now
 from .rendering import render, write_page
 from .verdict import NONE
 
-ABOUT = """Writes a page of HTML to standard output: the verdict on one boot with its reason and what to do next, unknown files, the PCRs, what
+ABOUT = """Writes an HTML page to standard output: the verdict on one boot with its reason and what to do next, unknown files, the PCRs, what
 the machine booted, each event of its log with what it says and whether that is confirmed, and each entry of its list.
 
 FOLDER has firmware.log, ima.list, and expected.txt. With --key and --nonce the boot is judged by a quote: FOLDER has quote.msg and
 quote.sig, and expected.txt may be there. Without them nobody signed the expected PCRs, and a match says so. No link, pipe or device
-there is read. If a file is not whole, the page shows what comes before the error.
+there is read. If a file is incomplete, the page shows what comes before the error.
 
 EARLIER is the folder of an earlier boot, as collected, or its log. The page then has both boots side by side, PCR by PCR. Nothing
 confirms the earlier log.
 
-The verdict is that of the program ima-agent. The page is whole: it loads nothing.
+The verdict is that of the program ima-agent. The page is self-contained: it loads nothing.
 
-Exit status: that of the program: 0 if the verdict is match; 1 if it is differ; 2 if an input is refused; 3 if a file of FOLDER cannot be read,
-the program failed or is not there, or the page could not be written; 4 if a quote does not hold. With 2, 3 and 4 there is a page, too, which
-says so, unless it could not be written or the program is not on PATH. 64 if the arguments are wrong."""
+Exit status: that of the program: 0 if the verdict is match; 1 if it is differ; 2 if an input is refused; 3 if a file in FOLDER cannot be read,
+the program failed or is not there, or the page could not be written; 4 if the quote or its signature is refused. With 2, 3 and 4 there is a page
+too, which says so, unless it could not be written or the program is not on PATH. 64 if the arguments are wrong."""
 
 _WRONG = 64
 _UNKNOWN = "unknown"

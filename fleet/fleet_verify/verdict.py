@@ -36,7 +36,7 @@ PEM = b"-----BEGIN"
 
 # Its line on a quote with another nonce.
 OTHER_NONCE = "refused: quote fault 11"
-ALL_USED = "Each nonce that was given out for this machine is used. Give out a new one with `fleet-verify nonces`, and collect a quote of it."
+ALL_USED = "Each nonce that was given out for this machine is used. Give out a new one with `fleet-verify nonces`, and collect a quote for it."
 NOT_ANSWERED = "The quote answers no nonce that was given out for this machine. Collect a new quote of the nonce that was given out last."
 
 # What may come of a machine besides a verdict: the worker lacks the library or a driver, or an error that none foresaw.

@@ -20,7 +20,7 @@ _OF_SYSTEM = {
     errno.EISDIR: "it is a folder", errno.ENAMETOOLONG: "its name is too long", errno.EFBIG: "the file is too large", errno.ETIMEDOUT: LATE,
     errno.EIO: "the device or its connection failed", errno.ENOSPC: "the disk is full", errno.EROFS: "its file system is read only",
     errno.EPIPE: "nobody reads the output", errno.EBADF: "the output is closed", errno.ENOMEM: MEMORY, errno.EMFILE: "too many files are open",
-    errno.ECONNREFUSED: "nothing listens there", errno.EEXIST: "it is there already",
+    errno.ECONNREFUSED: "nothing listens there", errno.EEXIST: "it exists already",
 }
 # What an exception without such a number says, by its class; of these one with a text of its own says that.
 _OF_CLASS: Sequence[Tuple[type, str]] = (
@@ -32,24 +32,25 @@ _SPEAKING = (OSError, ImportError)
 _ADVICE = (
     ("nothing to compare", "Collect expected.txt again, or judge the machine by a quote."),
     ("no key", "Enroll the machine with ima-enroll, and name its folder of keys with --keys."),
-    ("no nonce", "Give out a nonce with `fleet-verify nonces`, and collect a quote of it with `ima-collect --nonce`."),
+    ("no nonce", "Give out a nonce with `fleet-verify nonces`, and collect a quote for it with `ima-collect --nonce`."),
     ("no quote", "Run `ima-collect --nonce` on the machine, and copy what it collected."),
-    ("stale: the nonce", "Give out a new nonce, and collect a quote of it in time."),
-    ("stale: an", "Give out a new nonce, and collect a quote of it."),
+    ("stale: the nonce", "Give out a new nonce, and collect a quote for it in time."),
+    ("stale: an", "Give out a new nonce, and collect a quote for it."),
     ("stale: list", "Copy the machine's files again."),
-    ("refused: too long", "Copy it again. If it stays so long, reboot the machine: its list begins again."),
+    ("refused: too long", "Copy it again. If it is still that long, reboot the machine: its list begins again."),
     ("list: it is shorter", "Copy the list again. If the machine did not reboot, do not trust it."),
     ("log: ", "Copy the machine's files again."), ("list: ", "Copy the machine's files again."),
     ("expected: ", "Copy the machine's files again."), ("quote: ", "Copy the machine's files again."),
     ("signature: ", "Copy the machine's files again."),
     (LATE, "See whether its files can be reached, or give it more time with --deadline."),
-    ("each worker that verified it died", "Look at the machine's files: they may be hostile. Judge them apart, with ima-agent."),
+    ("each worker that verified it died", "Look at the machine's files: they may be hostile. Judge them separately, with ima-agent."),
     (MEMORY, "Start fewer workers, or give them more memory."),
 )
 # What a cause is in a reason, where the cause itself is for scripts.
 _WORDS = (
-    ("stale: list", "the list was last changed longer ago than --max-age, or at a time to come"), ("refused: too long ", "more than 64 MiB: the "),
-    ("log: ", "the firmware log cannot be read: "), ("list: it is shorter", "the measurement list is shorter"),
+    ("stale: list", "the list was last changed longer ago than --max-age, or at a time in the future"),
+    ("refused: too long ", "more than 64 MiB: the "), ("log: ", "the firmware log cannot be read: "),
+    ("list: it is shorter", "the measurement list is shorter"),
     ("list: ", "the measurement list cannot be read: "), ("expected: ", "the expected PCRs cannot be read: "),
     ("quote: ", "the quote cannot be read: "), ("signature: ", "the signature cannot be read: "),
     ("no quote: quote: ", "there is no quote: quote.msg: "), ("no quote: signature: ", "there is no quote: quote.sig: "),
@@ -59,7 +60,7 @@ _WORDS = (
     ("nothing to compare: no register is expected", "nothing to compare: expected.txt states no PCR"),
 )
 _AGGREGATES = {
-    "wrong": "the boot aggregate is not the log's", "nobank": "the boot aggregate is by a bank that the log lacks",
+    "wrong": "the boot aggregate is not the log's", "nobank": "the boot aggregate uses a bank that the log lacks",
     "missing": "there is no boot aggregate",
 }
 _PLACE = re.compile(r" at (event|entry|line) \d+(?=:)")
@@ -115,7 +116,7 @@ def ranges(numbers: Iterable[int]) -> str:
 
 def reason_of_report(report: str, boot_aggregate: Optional[str] = None, unknown: Optional[int] = None) -> str:
     """Why the verdict of a report is `differ`, as far as machines have that in common: the places are in the report. What that has of the boot
-    aggregate, and how many entries are of unknown files, comes beside it."""
+    aggregate, and how many entries are for unknown files, comes beside it."""
     told: Mapping[str, Any] = json.loads(report)
     parts = _register_words(told.get("registers", []))
     if boot_aggregate is not None and boot_aggregate not in GOOD_AGGREGATES:
@@ -123,7 +124,7 @@ def reason_of_report(report: str, boot_aggregate: Optional[str] = None, unknown:
     if told.get("quote") == "differ":
         parts.append("log and list do not make the quoted PCRs")
     if unknown:
-        parts.append("entries are of unknown files")
+        parts.append("entries are for unknown files")
     for row in told.get("extends", []):
         parts.append(f"{'an event of the log' if 'event' in row else 'an entry of the list'} extends PCR {row['register']}")
     text = "; ".join(dict.fromkeys(parts)) or "the report does not say why"

@@ -145,7 +145,8 @@ class Samples(AttestTests):
         longer = self.put("longer.list", LIST + LIST[-LAST_ENTRY:])
         self.check_differ("a list that went on after the quote", self.attest(list=longer))
         command, *words = replace(GOOD, list=longer).words()
-        said = ("PCR 10 covers the first 99 of 100 entries: the list grew after it was read; collect again, or add --prefix to judge those 99\n")
+        said = ("PCR 10 covers the first 99 of 100 entries: the list grew after PCR 10 was read; collect again, or add --prefix to judge only the "
+                "first 99\n")
         ended = self.call([command, "--explain", *words])
         self.check("the verdict is the last line, and what to do next is said beside it", (ended.output.splitlines()[-1], ended.errors),
                    ("verdict differ", said))

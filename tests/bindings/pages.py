@@ -65,13 +65,13 @@ def quote_inputs(folder):
         ("a key as PEM", {"AK.pub": pem}, "match 99\n"),
         ("a TPMT_SIGNATURE", {"quote.sig": (QUOTED / "quote.tpmt").read_bytes()}, "match 99\n"),
         ("a shorter list", {"ima.list": files["ima.list"][:-95]}, "differ 98\n"),
-        ("another nonce", {"nonce": b"00" * 20 + b"\n"}, "answers another nonce"),
-        ("another message", {"quote.msg": message[:-1] + bytes([message[-1] ^ 1])}, "not signed by this key"),
-        ("another key", {"AK.pub": (ROOT / "samples/keys/ak-rsassa.pub").read_bytes()}, "not signed by this key"),
+        ("another nonce", {"nonce": b"00" * 20 + b"\n"}, "nonce is not the one given"),
+        ("another message", {"quote.msg": message[:-1] + bytes([message[-1] ^ 1])}, "did not sign the message"),
+        ("another key", {"AK.pub": (ROOT / "samples/keys/ak-rsassa.pub").read_bytes()}, "did not sign the message"),
         ("no signature", {"quote.sig": b""}, "signature is cut short"),
         ("no key", {"AK.pub": message}, "public area is cut short"),
         ("an empty key", {"AK.pub": b""}, "public area is cut short"),
-        ("a PEM that is cut", {"AK.pub": pem[:-1]}, "PEM is of a kind of key that is not taken"),
+        ("a PEM that is cut", {"AK.pub": pem[:-1]}, "PEM file has an unsupported kind of key"),
     ):
         (folder / name).mkdir(parents=True)
         for file, data in {**files, **changes}.items():

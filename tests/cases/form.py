@@ -163,10 +163,14 @@ class Row(NamedTuple):
 
 
 def rows_of(name):
-    """The rows of the table of faults of docs/errors.txt that begins with this word, by the faults' numbers."""
+    """The rows of the table of faults of docs/errors.txt that begins with this word, by the faults' numbers. Where rows have the same advice, it is
+    below the last of them."""
     tables = {text.split()[0]: text for text in FAULTS.findall((ROOT / "docs/errors.txt").read_text())}
-    rows = re.findall(r"^ +(\d+)  (.*)\n((?: {5}.*\n)+)", tables[name], re.MULTILINE)
-    return {int(number): Row(wrong, " ".join(advice.split())) for number, wrong, advice in rows}
+    found, below = {}, ""
+    for number, wrong, advice in reversed(re.findall(r"^ +(\d+)  (.*)\n((?: {5}.*\n)*)", tables[name], re.MULTILINE)):
+        below = " ".join(advice.split()) or below
+        found[int(number)] = Row(wrong, below)
+    return found
 
 
 def displayed_of(name):

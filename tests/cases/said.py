@@ -35,30 +35,30 @@ LOG, FORM, LIST, TEXT, REPLAY, EXPECTED, KNOWN, QUOTE, SIGNATURE, KEY, CHECKPOIN
     form.rows_of, ("Log", "Form", "List", "Text", "Replay", "Expected", "Known", "Quote", "Signature", "Key", "Checkpoint", "Book", "Gather"))
 MEMORY = form.Row("Memory ran out", "Try again with more memory.")
 OUT_OF_MEMORY = "".join(f"{words}\n" for words in MEMORY).encode()
-NOT_HEX = "Give the log in hexadecimal, as xxd -p prints it, or its file to ima-agent registers."
+NOT_HEX = "Give the log in hexadecimal as xxd -p prints it, or give its file to ima-agent registers."
 TOO_LONG = "No input may be longer: check that this is the right one."
-NOT_WRITABLE = "Name a FILE in a folder that exists and in which you may write, on a disk with room."
+NOT_WRITABLE = "Name a FILE in an existing, writable folder on a disk with free space."
 NAMES_NOT_UTF8 = "Rename the files whose names are not UTF-8, or leave them out."
-NOT_WRITTEN = b"the output could not be written: its disk is full, or whoever should read it has ended\n"
+NOT_WRITTEN = b"the output could not be written: the disk is full, or the program that reads it has exited\n"
 TABLES = (LOG, FORM, LIST, TEXT, REPLAY, EXPECTED, KNOWN, QUOTE, SIGNATURE, KEY, CHECKPOINT, BOOK, GATHER)
 ADVICE = {NOT_HEX, TOO_LONG, NOT_WRITABLE, NAMES_NOT_UTF8, *(row.advice for table in TABLES for row in table.values())}
 
 # The numbers of the signature faults that are of the key, and what to do about each; about a key that is no public area, which the first ten of its
 # faults are of; and where nobody looked at a signature.
 OF_KEYS = (8, 9)
-NO_SIGNATURE = "SIG must be what tpm2_quote -s wrote with QUOTE, plain or not, and KEY of its kind and size"
-OTHER_SIGNATURE = "SIG is not by a scheme and hash that KEY takes: it is by another key, or was changed"
+NO_SIGNATURE = "SIG must be what tpm2_quote -s wrote with QUOTE, plain or not; KEY must be the key that made it"
+OTHER_SIGNATURE = "KEY does not allow the scheme or the hash of SIG: SIG was made by another key or changed"
 SIGNATURE_HINTS = {
     **dict.fromkeys((1, 2, 3, 4), NO_SIGNATURE),
     **dict.fromkeys((5, 6), OTHER_SIGNATURE),
-    7: "SIG is by another key or of another quote, or one of QUOTE, SIG and KEY was changed",
-    8: "signatures by such keys are not verified here: verify SIG yourself, then call ima-agent with --signature-checked in place of both",
-    9: "give the key's public area: NAME.pub of ima-enroll",
+    7: "SIG is from another key or another quote, or one of QUOTE, SIG and KEY was changed",
+    8: "ima-agent cannot verify signatures by such keys: verify SIG yourself, then give --signature-checked instead of --key and --signature",
+    9: "give the key's public area: NAME.pub from ima-enroll",
 }
 LAST_OF_AREAS = 10
-NO_AREA = "KEY is not a public area of a kind that is taken: give NAME.pub of ima-enroll, or PEM as ima-agent key --print pem prints it"
-NO_ATTESTATION_KEY = "KEY is not a key that attests: give NAME.pub of ima-enroll"
-UNSIGNED = "nobody looked at the signature of QUOTE: give --key and --signature to have it verified"
+NO_AREA = "KEY is not a supported public area: give NAME.pub from ima-enroll, or PEM as ima-agent key --print pem prints it"
+NO_ATTESTATION_KEY = "KEY is not an attestation key: give NAME.pub from ima-enroll"
+UNSIGNED = "the signature of QUOTE was not checked: add --key and --signature to verify it"
 
 
 def shown(text):
@@ -174,7 +174,7 @@ def takes_only_files(words):
 def unread(name, folder, takes_only_files):
     """That the file of this name cannot be read, and what the system says why, if it still says so; or that it is no regular file."""
     if takes_only_files and name and (folder / name).exists() and not (folder / name).is_file():
-        return f"cannot read {name}: it is no regular file: copy it to one"
+        return f"cannot read {name}: it is not a regular file: copy it to one"
     place = os.open(folder, os.O_RDONLY)
     try:
         file = os.open(name, os.O_RDONLY, dir_fd=place)

@@ -32,6 +32,7 @@ from typing import NamedTuple
 sys.path.insert(0, str(Path(__file__).resolve().parents[1]))
 import form  # noqa: E402
 import harness  # noqa: E402
+import reference  # noqa: E402
 from answers import Answer, fault_of  # noqa: E402
 from reference.faults import Fault  # noqa: E402
 from reference.hints import (  # noqa: E402
@@ -81,6 +82,7 @@ from said import (  # noqa: E402
     SIGNATURE,
     SIGNATURE_HINTS,
     TEXT,
+    TOO_LONG,
     UNSIGNED,
     fault_line_of,
     is_of_usage,
@@ -90,7 +92,7 @@ from said import (  # noqa: E402
 PROGRAM = harness.argument()
 SAMPLES = Path(__file__).resolve().parents[2] / "samples"
 NONCE_GIVEN = (SAMPLES / "quoted" / "nonce").read_text().strip()
-WAITING = b"reading a firmware event log in hexadecimal from standard input; ima-agent --help tells the commands\n"
+WAITING = b"reading a firmware event log in hexadecimal from standard input; ima-agent --help lists the commands\n"
 SECONDS = 180  # (beside the other parts of the gate)
 MEBIBYTE = 1 << 20
 MOST_BYTES = 4 * MEBIBYTE
@@ -125,10 +127,10 @@ int clock_gettime(clockid_t clock, struct timespec *now) {
 MORE = "\nFor more information, try '--help'.\n"
 REQUIRE, REGISTERS, NONCE = "--require <SELECTION>", "--registers <SELECTION>", "--nonce <HEX>"
 GRAMMAR = "items, separated by , or +: [BANK:]PCR, [BANK:]FIRST-LAST or [BANK:]all. An item without BANK uses the previous item's"
-UNBOUND = "PCR 10 is selected in no bank, so the list would not be checked: add it, as in sha256:0-10"
-SHORT_NONCE = "a nonce has 16 bytes or more, which are 32 hexadecimal digits"
-UNQUOTED = "PCR {} is in no bank: a quote needs PCRs 0 to 10, as in sha256:0-10"
-WEAK = "PCR {} is in the SHA-1 bank alone, which collisions can forge: require another bank, or add --sha1"
+UNBOUND = "PCR 10 is not selected in any bank, so the list would not be checked: add it, as in sha256:0-10"
+SHORT_NONCE = "a nonce has at least 16 bytes, which is 32 hexadecimal digits"
+UNQUOTED = "PCR {} is not selected in any bank: a quote needs PCRs 0 to 10, as in sha256:0-10"
+WEAK = "PCR {} is selected only in the SHA-1 bank, which can be forged: require another bank, or add --sha1"
 
 
 def malformed(place, part):
@@ -142,7 +144,7 @@ USAGES = [
     (["measure", "--workers", "9", "L"], f"error: invalid value '9' for '--workers <THREADS>': 9 is not in 1..=8\n{MORE}"),
     (["measure", "--alg", "sm3", "L"],
      f"error: invalid value 'sm3' for '--alg <HASH>'\n  [possible values: sha1, sha256, sha384, sha512]\n{MORE}"),
-    (["measure", "--json", "--print", "binary", "L"], "error: invalid value 'binary' for '--print <OUTPUT>' with '--json'\n"),
+    (["measure", "--json", "--print", "binary", "L"], "error: the argument '--print binary' cannot be used with '--json'\n"),
     *((["events", "--explain", other, "L"], f"error: the argument '--explain' cannot be used with '{other}'\n") for other in ("--data", "--json")),
     *((["events", *more, "--expected", "E", "L"],
        "error: the argument '--expected <EXPECTED>' cannot be used without '--explain' or '--json'\n") for more in ([], ["--data"])),
@@ -152,9 +154,9 @@ USAGES = [
      f"error: invalid value 'ascii' for '--print <PART>'\n  [possible values: all, name, pem]\n{MORE}"),
     *(([command, "--json", "L"], "error: unexpected argument '--json' found\n\n  tip: to pass '--json' as a value, use '-- --json'\n\n"
        f"Usage: ima-agent {command} [OPTIONS] <FILE>\n{MORE}") for command in ("list", "log")),
-    *(([command, *more, "--expected", "-", "-"], "error: the argument '--expected <EXPECTED>' cannot be '-' if '<LOG>' is\n")
+    *(([command, *more, "--expected", "-", "-"], "error: '<LOG>' and '--expected <EXPECTED>' cannot both be '-'\n")
       for command, more in (("boot", []), ("events", ["--explain"]), ("events", ["--json"]))),
-    (["boot", "--before", "-", "L"], "error: invalid value '-' for '--before <OLD_LOG>': it is no file\n"),
+    (["boot", "--before", "-", "L"], "error: invalid value '-' for '--before <OLD_LOG>': it must be a file\n"),
     (["\x1b[31m\nred"], f"error: unrecognized subcommand '\\x1b[31m\\x0ared'\n\nUsage: ima-agent [COMMAND]\n{MORE}"),
     *(([*words, "--require", text, *names], f"error: invalid value '{text}' for '{REQUIRE}': {malformed(place, part)}\n")
       for words, names, text, place, part in (
@@ -172,13 +174,13 @@ USAGES = [
     (["expected", "--registers", "24", "L"], f"error: invalid value '24' for '{REGISTERS}': {malformed(1, '24')}\n"),
     (["expected", "--registers", "0-7+all,", "L"], f"error: invalid value '0-7+all,' for '{REGISTERS}': {malformed(9, '')}\n"),
     *((["verify", "--require", text, "L", "M", "N"],
-       f"error: invalid value '{text}' for '{REQUIRE}': unknown bank '{bank}': known are sha1, sha256, sha384 and sha512\n")
+       f"error: invalid value '{text}' for '{REQUIRE}': unknown bank '{bank}': use sha1, sha256, sha384 or sha512\n")
       for text, bank in (("sha265:0-10", "sha265"), ("SHA256:0-10", "SHA256"), ("sha256:0-10+sm3:10", "sm3"), (":10", ""))),
     *((["attest", "--nonce", nonce, "--require", "sha256:0-10", "L", "M", "Q"], f"error: invalid value '{shown}' for '{NONCE}': {cause}\n")
       for nonce, shown, cause in (
-          ("xy", "xy", "it is not hexadecimal"),
-          ("000", "000", "it is not hexadecimal"),
-          ("\x1b[2J", r"\x1b[2J", "it is not hexadecimal"),
+          ("xy", "xy", "it must be hexadecimal, two digits per byte"),
+          ("000", "000", "it must be hexadecimal, two digits per byte"),
+          ("\x1b[2J", r"\x1b[2J", "it must be hexadecimal, two digits per byte"),
           ("00", "00", SHORT_NONCE),
           ("0" * 30, "0" * 30, SHORT_NONCE),
       )),
@@ -205,7 +207,8 @@ USAGES = [
      f"Usage: ima-agent attest {NONCE} {REQUIRE} <LOG> <LIST> <QUOTE> [EXPECTED]\n{MORE}"),
     (["attest", "--nonce", "00", "--require", "sha256", "L", "M", "Q"],
      f"error: invalid value 'sha256' for '{REQUIRE}': {malformed(1, 'sha256')}\n"),
-    (["attest", "--nonce", "xy", "--require", "sha256", "L", "M", "Q"], f"error: invalid value 'xy' for '{NONCE}': it is not hexadecimal\n"),
+    (["attest", "--nonce", "xy", "--require", "sha256", "L", "M", "Q"],
+     f"error: invalid value 'xy' for '{NONCE}': it must be hexadecimal, two digits per byte\n"),
     *((["attest", "--nonce", "0" * 32, "--require", text, "L", "M", "Q"], f"error: invalid value '{text}' for '{REQUIRE}': {cause}\n")
       for text, cause in (
           ("sha256", malformed(1, "sha256")),
@@ -345,19 +348,20 @@ def further_commands():
         unread = b"failed: read %s\n" % name.encode()
         yield Command(f"a name: {escaped}", ["show", name], Ended(3, unread, f"cannot read {escaped}: No such file or directory\n".encode()))
         empty = f"{name} is empty"
-        said = f"{escaped} is empty: event 0: its bytes are not all there\n{escaped} is empty: {EMPTY}\n".encode()
+        said = f"{escaped} is empty: event 0: it is cut short\n{escaped} is empty: {EMPTY}\n".encode()
         yield Command(f"an empty log: {escaped}", ["events", empty], Ended(2, b"refused: log fault 1 at event 0\n", said))
     memory = b"failed: memory\n"
-    yield Command("an argument that is not UTF-8", ["show", b"\xff"], Ended(3, memory, b"an argument is not UTF-8: rename the file, or name it by a link\n"))
+    yield Command("an argument that is not UTF-8", ["show", b"\xff"], Ended(3, memory, b"an argument is not UTF-8: rename the file, or give a link to it\n"))
     yield Command("little memory", ["registers", "large 0"], Ended(3, memory, OUT_OF_MEMORY), limit_memory)
     yield Command("a folder as standard input", [], Ended(3, b"failed: read -\n", b"cannot read standard input: Is a directory\n"),
                   lambda: give("."))
-    yield Command("standard input without an end", [], Ended(2, b"refused: too long -\n", b"standard input is longer than 64 MiB\n"),
+    endless = f"standard input is longer than 64 MiB\n{TOO_LONG}\n".encode()
+    yield Command("standard input without an end", [], Ended(2, b"refused: too long -\n", endless),
                   lambda: give("/dev/zero"))
     yield Command("a folder as the standard input of events", ["events", "-"], Ended(3, b"failed: read -\n", b"cannot read standard input: Is a directory\n"),
                   lambda: give("."))
     yield Command("standard input of list without an end", ["list", "-"],
-                  Ended(2, b"refused: too long -\n", b"standard input is longer than 64 MiB\n"), lambda: give("/dev/zero"))
+                  Ended(2, b"refused: too long -\n", endless), lambda: give("/dev/zero"))
     yield Command("a file of the name of standard input", ["show", "-"], Ended(3, b"failed: read -\n", b"cannot read -: No such file or directory\n"))
     yield Command("a folder", ["show", "."], Ended(3, b"failed: read .\n", b"cannot read .: Is a directory\n"))
     for title, settle in (
@@ -373,8 +377,9 @@ def hinted_commands():
     """Commands of which something differs, or of which an input is not what it should be; their status, and what to do next."""
     judged, quoted = ["firmware.log", "ima.list", "expected.txt"], ["--nonce", NONCE_GIVEN, "--signature-checked"]
     changed, lacks = f"sha256 PCR 4 differs: {OTHER_BOOT}", "EXPECTED lacks {} PCR {}: read it with the others"
-    grown = ("PCR 10 covers the first 99 of 100 entries: the list grew after it was read; collect again, or add --prefix to judge those 99")
-    earlier = ("sha256 PCR 10 differs: it was read at another time than LIST, a kernel before 5.8 extended it by SHA-1 digests with zeros after them, "
+    grown = ("PCR 10 covers the first 99 of 100 entries: the list grew after PCR 10 was read; collect again, or add --prefix to judge only the "
+             "first 99")
+    earlier = ("sha256 PCR 10 differs: it was read at a different time than LIST, a kernel before 5.8 extended it with zero-padded SHA-1 digests, "
                "or an entry is missing or was changed")
     other = AGGREGATES["wrong"]
     yield "all matches", ["verify", "--require=sha256:0-10", *judged], 0, []
@@ -397,7 +402,7 @@ def hinted_commands():
     yield "a value of the log", ["replay", "ima.list", "four.txt"], 1, [
         "sha256 PCR 4 differs: replay reads no log; ima-agent verify does"]
     yield "no bank", ["verify", "firmware.log", "ima.list", "sha1.txt"], 1, [
-        "sha1 is no bank of LOG, so its PCRs cannot be judged: LOG is of another machine, or was changed"]
+        "sha1 is not a bank of LOG, so its PCRs cannot be judged: LOG is from another machine or was changed"]
     yield "an empty list", ["verify", "firmware.log", "empty", "expected.txt"], 1, [
         NO_ENTRIES]
     yield "another boot", ["verify", "firmware.log", "other.list", "empty"], 1, [
@@ -411,7 +416,7 @@ def hinted_commands():
     yield "an event of PCR 10", ["verify", "--require=sha256:10", "ten.log", "ima.list", "expected.txt"], 1, [other, event, zero]
     yield "more than three causes", ["verify", "--require=sha256:10+sha1:9", "ten.log", "ima.list", "expected.txt"], 1, [other, event, zero]
     yield "an entry of another PCR", ["replay", "--require=sha256:10", "nine.list", "ten.txt"], 1, [
-        earlier, "entry 98 extends PCR 9, as a rule with pcr= in the policy has it; replay takes a list whose entries extend PCR 10 alone"]
+        earlier, "entry 98 extends PCR 9, as a policy rule with pcr= requests; replay accepts only lists whose entries all extend PCR 10"]
     # (its prefix without that entry matches)
     eleven = f"entry 99 extends PCR 11, which only the log should: {APART}"
     yield "a list with an entry of PCR 11", ["verify", "firmware.log", "eleven.list", "expected.txt"], 1, [
@@ -427,7 +432,7 @@ def hinted_commands():
         f"sha256 PCR 4 never has its value: {OTHER_BOOT}"]
     sha1 = re.sub("a kernel .* them, ", "", earlier.replace("sha256", "sha1"))
     yield "another value of SHA-1", ["replay", "ima.list", "sha1.ten.txt"], 1, [sha1]
-    unknown = ("entry 93 is the first that no known file has: ima-agent show names its file; compare that with the file in its package")
+    unknown = ("entry 93 is the first that matches no known digest: ima-agent show names its file; compare that with the file in its package")
     yield "files that are not known", ["verify", "--require=sha256:0-10", "--known=known", *judged], 1, [unknown]
     yield "files that are not known, by a quote", [
         "attest", *quoted, "--require=sha256:0-10", "--known=known", "firmware.log", "ima.list", "quote.msg"], 1, [unknown]
@@ -449,6 +454,23 @@ def hinted_commands():
     links = [f"link to {name}" for name in ("firmware.log", "longer.list", "expected.txt")]
     yield "a list that grew, by links", ["verify", *links], 1, [grown]
     yield "a quoted list that grew, by links", ["attest", *quoted, "--require=sha256:0-10", *links[:2], "link to quote.msg"], 1, [grown]
+
+
+def shown_commands():
+    """Commands that leave nothing but their output on a terminal, and those that leave the same in a file."""
+    verified = ["firmware.log", "ima.list", "expected.txt"]
+    quoted = ["--quiet", "--nonce", NONCE_GIVEN, "--require", "sha256:0-10", "firmware.log", "ima.list", "quote.msg", "expected.txt"]
+    judged = (["verify", *verified], ["verify", "--quiet", "firmware.log", "ima.list", "changed.txt"], ["verify", "--", *verified],
+              ["verify", "--quiet", "--prefix", "--require", "sha256:0-10", "firmware.log", "longer.list", "expected.txt"],
+              ["replay", "--quiet", "ima.list", "expected.txt"], ["replay", "ima.list"], ["attest", *quoted])
+    for command, *rest in judged:
+        yield [command, *rest], [command, "--terminal", *rest]
+        yield [command, "--terminal", *rest], [command, "--terminal", *rest]
+        yield [command, "--json", *rest], [command, "--json", *rest]
+        if rest != ["ima.list"]:
+            yield [command, "--summary", *rest], [command, "--summary", *rest]
+    for words in (["show", "ima.list"], ["locate", "--quiet", *verified], ["registers", "firmware.log"], ["verify", "--quiet", "--summary", "firmware.log"]):
+        yield words, words
 
 
 def mistaken_commands():
@@ -526,7 +548,7 @@ def signed_commands():
     for name in ("firmware.log", "ima.list", "quote.msg", "AK.pem", "quote.sig"):
         words = ["attest", "--key=AK.pem", "--signature=quote.sig", *asked, *quoted]
         piped = [each.replace(name, "pipe") for each in words]
-        yield f"a pipe in place of {name}", piped, 3, b"failed: read pipe\n", ["cannot read pipe: it is no regular file: copy it to one"]
+        yield f"a pipe in place of {name}", piped, 3, b"failed: read pipe\n", ["cannot read pipe: it is not a regular file: copy it to one"]
     signed = [*asked, "--quote=quote.msg", "--key=AK.pem", "--signature=quote.sig"]
     for title, words in (
         ("as the log of a boot", ["boot", *signed, "--list=ima.list", "pipe"]),
@@ -535,7 +557,7 @@ def signed_commands():
         ("as the log of events", ["events", "--explain", *signed, "--list=ima.list", "pipe"]),
         ("as the list of events", ["events", "--explain", *signed, "--list=pipe", "firmware.log"]),
     ):
-        yield f"a pipe {title}", words, 3, b"failed: read pipe\n", ["cannot read pipe: it is no regular file: copy it to one"]
+        yield f"a pipe {title}", words, 3, b"failed: read pipe\n", ["cannot read pipe: it is not a regular file: copy it to one"]
 
 
 def piped_commands():
@@ -853,7 +875,7 @@ class Further(harness.TestCase):
         finally:
             os.close(theirs)
             os.close(ours)
-        sentence = b"standard input: event 0: its bytes are not all there\nCopy the log again.\n"
+        sentence = b"standard input: event 0: it is cut short\nCopy the log again.\n"
         self.check("nothing typed", (status, said), (2, WAITING + sentence))
         self.check("nothing typed, elsewhere", (elsewhere.returncode, elsewhere.stderr), (2, sentence))
         status, said = run_on_terminal([], self.room, subprocess.DEVNULL, subprocess.DEVNULL)
@@ -864,6 +886,13 @@ class Further(harness.TestCase):
         found = run_on_terminal(["show", "none"], self.room, subprocess.DEVNULL, subprocess.DEVNULL, lambda: os.dup2(2, 1))
         wanted = (3, b"failed: read none\ncannot read none: No such file or directory\n")
         self.check("a refusal, all on one terminal", found, wanted)
+
+    def test_looks(self):
+        """Where the output is a terminal, a report has PCRs at reset last, unless another form is asked for."""
+        make_samples(self.room)
+        for words, like in shown_commands():
+            found = run_on_terminal(words, self.room, subprocess.DEVNULL, subprocess.DEVNULL, lambda: os.dup2(2, 1))
+            self.check(f"{words}, its output on a terminal", found, reference.answer(like, self.room))
 
     def test_pace(self):
         """Measurements of pipes show each number in turn, from 1 on, after more than a second, and none before."""

@@ -52,9 +52,11 @@ def tables_in(root):
 
 def lines_of(rows):
     """The rows of a table."""
+    indent = " " * 5
     for action, group in itertools.groupby(rows.items(), lambda row: row[1].action):
         yield from (f"{number:>3}  {row.wrong}\n" for number, row in group)
-        yield from (f"{line}\n" for line in textwrap.wrap(action, WIDTH, initial_indent=" " * 5, subsequent_indent=" " * 5))
+        lines = textwrap.wrap(action, WIDTH, initial_indent=indent, subsequent_indent=indent, break_on_hyphens=False)
+        yield from (f"{line}\n" for line in lines)
 
 
 def made(root):

@@ -97,7 +97,7 @@ def wanted_of(data, file):
     except Fault as fault:
         line = fault.line.encode()
         return (fault.status, line + b"\n", said_of_error(["log", str(file)], line, file.parent, None)), fault.number
-    told = f"padding cut: {padding} bytes behind the last event\n".encode() if padding else b""
+    told = f"padding cut: {padding} bytes after the last event\n".encode() if padding else b""
     form = "crypto-agile" if data.startswith(log) else "SHA-1 form"
     return (0, log, told), f"{form}, {'padding' if padding else 'no padding'}"
 

@@ -50,7 +50,7 @@ REASONS = {
 # What the library says of a log that is cut short, and what is said of a machine that differs in several ways.
 CUT = "The firmware event log is damaged at event {}: it is cut short. Copy it."
 DIFFERING = (
-    "No value is expected for SHA-256 PCR 4; the boot aggregate is not the log's; log and list do not make the quoted PCRs; entries are of unknown "
+    "No value is expected for SHA-256 PCR 4; the boot aggregate is not the log's; log and list do not make the quoted PCRs; entries are for unknown "
     "files; an entry of the list extends PCR 9."
 )
 
@@ -277,7 +277,7 @@ def change_lists(folder):
 
 
 def test_ages(tools):
-    """Lists that were changed too long ago, or at a time to come, are not taken where --max-age says so."""
+    """Lists that were changed too long ago, or at a time in the future, are not taken where --max-age says so."""
     folder = tools.folder / "ages"
     machines = make_machines(folder, 5)
     lines = machines.read_text().splitlines()

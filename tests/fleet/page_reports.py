@@ -107,7 +107,7 @@ def test_which(tools, folder, program):
     made_of = {name: tools.folder / unquote(links[name][0]) for name in links}
     titles = {name: next(Reader(path.read_text()).top.all("h1")).text for name, path in made_of.items()}
     tools.check("links lead to the reports, from the folder of the call", titles, {name: f"Boot: {name}" for name in words})
-    tools.check("a page says how many machines have a report", "4 machines have a report of their own" in page.text, True)
+    tools.check("a page says how many machines have a report", "4 machines have their own reports" in page.text, True)
     mode = stat.S_IMODE(made_of["cut"].stat().st_mode)
     mask = os.umask(0)
     os.umask(mask)
@@ -187,7 +187,7 @@ def test_refused(tools, folder, program):
     (folder / "a file").write_text("")
     for title, words, wanted in (
         ("no program", ("--reports", folder / "never", "--program", "none-is-called-so"), (2, "none-is-called-so is not on PATH")),
-        ("a file in place of the folder", ("--reports", folder / "a file", "--program", program), (2, "a file: it is there already")),
+        ("a file in place of the folder", ("--reports", folder / "a file", "--program", program), (2, "a file: it exists already")),
         ("a folder in none", ("--reports", folder / "never/never", "--program", program), (2, "never/never: it is not there")),
         ("no known file", ("--reports", folder / "never", "--known", folder / "none", "--program", program), (2, "it is not there")),
     ):

@@ -25,7 +25,7 @@ GOOD = "e8ed95b94e8d66f42e5b9be4d794dc0c7701e2360f03537fe59e9ba861a8024f"
 OTHER = "a2bcf779880ae33077f9e7992851299f30cea5f6cffc6512de6cd10aa457a7f3"
 MOMENT_AGO = "UPDATE ends SET time = strftime('%Y-%m-%dT%H:%M:%f+00:00', 'now', '-5 seconds')"
 
-CUT = "The firmware event log is damaged{}: its bytes are not all there. Copy the log again."
+CUT = "The firmware event log is damaged{}: it is cut short. Copy the log again."
 AHEAD = "UPDATE {} SET time = strftime('%Y-%m-%dT%H:%M:%f+00:00', 'now', '+30 seconds')"
 
 
@@ -145,7 +145,7 @@ def test_listed(tools, folder):
     tools.check("a page: registers with their values", rows["two"][1], f"SHA-256 PCRs 0, 10 differ.{values}")
     wanted = "The boot aggregate is not the log's; an event of the log extends PCR 10.event 25 extends PCR 10"
     tools.check("a page: what extends", rows["moved"][1], wanted)
-    tools.check("a page: unknown entries", rows["strange"][1], "Entries are of unknown files.unknown entries: 3, the first is entry 93")
+    tools.check("a page: unknown entries", rows["strange"][1], "Entries are for unknown files.unknown entries: 3, the first is entry 93")
     tools.check("a page: a cause", rows["cut"][:2], ["refused", f"{CUT.format(' at event 24')} refused: log fault 1 at event 24"])
     names = [[each.text for each in group.all("li")] for group in page.all("ul") if group.attributes.get("class") == "names"]
     times = dict(query(table, "SELECT machine, substr(replace(time, 'T', ' '), 1, 19) FROM verdicts"))
@@ -269,8 +269,8 @@ def test_prefixes(tools, folder):
     text, _ = state_of(page)
     told = "2 of these matches cover only the first entries of a list. Nothing confirms the entries after them."
     tools.check("a page: a prefix is told in its head", told in text, True)
-    rows = rows_below(page, "Matches of which only the first entries are confirmed")
-    tools.check("a page: how much of a list is confirmed", rows, [["cut", "97", "97", "bytes that are no entry"], ["grown", "99", "100", "1"]])
+    rows = rows_below(page, "Matches that confirm only the first entries")
+    tools.check("a page: how much of a list is confirmed", rows, [["cut", "97", "97", "bytes that are not an entry"], ["grown", "99", "100", "1"]])
     tools.check("the view of prefixes", query(table, "SELECT * FROM prefixes ORDER BY 1"), [("cut", 97, 97, 0), ("grown", 99, 100, 1)])
     del answers["grown"], answers["cut"]
     page = shown_page(tools, make_table(folder / "no prefixes.db", answers))

@@ -73,19 +73,19 @@ def test_runs(tools, folder):
     tools.check("--prefix: JSON has how many prefixes match", json.loads(output)["matching_prefixes"], 1)
     if has(tools.python, "jinja2"):
         page = Reader(page_of(tools, table)[1]).top
-        found = rows_below(page, "Matches of which only the first entries are confirmed")
+        found = rows_below(page, "Matches that confirm only the first entries")
         tools.check("--prefix: the page has how much is confirmed", found, [[GROWN, str(ENTRIES), str(ENTRIES + 1), "1"]])
         tools.check("--prefix: the page says so first", "Nothing confirms the entries after them." in state_of(page)[0], True)
 
 
 def test_cut(tools, folder):
-    """A list that continues with bytes that are no entry: all its entries are confirmed, and what follows is told all the same."""
+    """A list that continues with bytes that are not an entry: all its entries are confirmed, and what follows is told all the same."""
     machines = make_machines(folder / "cut", 1)
     cut, table = folder / "cut/0/ima.list", folder / "cut.db"
     cut.write_bytes(cut.read_bytes() + cut.read_bytes()[-ENTRY:][:CUT])
     tools.verify("--workers", 1, "--prefix", machines, table)
-    tools.check("--prefix: bytes that are no entry: the verdict", query(table, ROWS), [(WHOLE, "match", 1, ENTRIES, ENTRIES, 0)])
-    tools.check("--prefix: bytes that are no entry: the view", query(table, "SELECT * FROM prefixes"), [(WHOLE, ENTRIES, ENTRIES, 0)])
+    tools.check("--prefix: bytes that are not an entry: the verdict", query(table, ROWS), [(WHOLE, "match", 1, ENTRIES, ENTRIES, 0)])
+    tools.check("--prefix: bytes that are not an entry: the view", query(table, "SELECT * FROM prefixes"), [(WHOLE, ENTRIES, ENTRIES, 0)])
 
 
 def test_polls(tools, folder):

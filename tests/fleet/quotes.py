@@ -37,7 +37,7 @@ PLACES = ("{0}", "\t".join(f"{{0}}/{file}" for file in EVIDENCE), "\t".join(f"fi
 VERDICTS = ("match", "differ", "refused", "unreadable", "failed")
 MOST_BYTES = 64 * 1024 * 1024
 ADD_NONCE = "INSERT INTO nonces (machine, nonce, given_out, max_age) VALUES (?, ?, ?, ?)"
-OLD = "stale: the nonce of its quote is older than --max-age, or of a time to come"
+OLD = "stale: the nonce of its quote is older than --max-age, or from the future"
 USED = "stale: an earlier verdict used the nonce of its quote"
 NO_NONCE = "no nonce: none was given out for this machine, or each is used or too old"
 OTHER_NONCE, LESS_QUOTED = "refused: quote fault 11", "refused: quote fault 12"
@@ -181,8 +181,8 @@ class Quotes:
 
 # What the library says of a wrong argument, by its table of errors (crates/error_texts).
 SHORT_NONCE = (
-    "unexpected error, Misuse: An argument is wrong. Write PCRs as in sha256:0-10. Require at least PCR 10; with a quote PCRs 0 to 10, and not in the "
-    "SHA-1 bank alone. A nonce has 16 bytes or more. Known files need required PCRs."
+    "unexpected error, Misuse: An argument is wrong. Write PCRs as in sha256:0-10. Require at least PCR 10; with a quote, require PCRs 0 to 10, and not "
+    "only in the SHA-1 bank. A nonce has at least 16 bytes. Known files need required PCRs."
 )
 
 
@@ -475,9 +475,9 @@ def test_nonces(quotes, verdicts):
     quotes.check("nonces: into files once more", quotes.call(*words), (0, "", ""))
     check_files(quotes, folder, later)
     changed = {name for name in given if later[name] != given[name]}
-    quotes.check("nonces: another, where one is older than half an hour, or of a time to come", changed, {"machine 0", "machine 1", "machine 2"})
+    quotes.check("nonces: another, where one is older than half an hour, or from the future", changed, {"machine 0", "machine 1", "machine 2"})
     kept = {name for (name,) in query(verdicts, "SELECT machine FROM nonces GROUP BY machine HAVING count(*) > 1")}
-    quotes.check("nonces: one that is too old, or of a time to come, is forgotten", kept, {"machine 0"})
+    quotes.check("nonces: one that is too old, or from the future, is forgotten", kept, {"machine 0"})
     odd = quotes.folder / "odd.tsv"
     odd.write_text("../a\t/a\n")
     status, _, errors = quotes.call("nonces", "--folder", folder, odd, quotes.folder / "odd.db")

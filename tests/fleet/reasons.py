@@ -15,7 +15,7 @@ from fleet_verify.wording import ranges, reason_of, reason_of_report, without_pl
 from tables import query
 
 COPY = "Copy the machine's files again."
-NONCE = "Give out a nonce with `fleet-verify nonces`, and collect a quote of it with `ima-collect --nonce`."
+NONCE = "Give out a nonce with `fleet-verify nonces`, and collect a quote for it with `ima-collect --nonce`."
 # Of each cause what is wrong, and what to do.
 CAUSES = {
     NOTHING_EXPECTED: "Nothing to compare: expected.txt states no PCR. Collect expected.txt again, or judge the machine by a quote.",
@@ -25,13 +25,13 @@ CAUSES = {
         "There is no quote: quote.msg: it is not there. Run `ima-collect --nonce` on the machine, and copy what it collected.",
     NO_QUOTE.format("signature: it is not there"):
         "There is no quote: quote.sig: it is not there. Run `ima-collect --nonce` on the machine, and copy what it collected.",
-    USED: "An earlier verdict used the nonce of its quote. Give out a new nonce, and collect a quote of it.",
-    NO_LONGER: "Another verdict used the nonce of its quote, or it is given out no longer. Give out a new nonce, and collect a quote of it.",
-    TOO_OLD: "The nonce of its quote is older than --max-age, or of a time to come. Give out a new nonce, and collect a quote of it in time.",
-    STALE: f"The list was last changed longer ago than --max-age, or at a time to come. {COPY}",
+    USED: "An earlier verdict used the nonce of its quote. Give out a new nonce, and collect a quote for it.",
+    NO_LONGER: "Another verdict used the nonce of its quote, or it is given out no longer. Give out a new nonce, and collect a quote for it.",
+    TOO_OLD: "The nonce of its quote is older than --max-age, or from the future. Give out a new nonce, and collect a quote for it in time.",
+    STALE: f"The list was last changed longer ago than --max-age, or at a time in the future. {COPY}",
     SHORTER: "The measurement list is shorter than at the checkpoint. Copy the list again. If the machine did not reboot, do not trust it.",
-    KILLED: "Each worker that verified it died. Look at the machine's files: they may be hostile. Judge them apart, with ima-agent.",
-    "refused: too long list": "More than 64 MiB: the list. Copy it again. If it stays so long, reboot the machine: its list begins again.",
+    KILLED: "Each worker that verified it died. Look at the machine's files: they may be hostile. Judge them separately, with ima-agent.",
+    "refused: too long list": "More than 64 MiB: the list. Copy it again. If it is still that long, reboot the machine: its list begins again.",
     "no answer in time": "No answer in time. See whether its files can be reached, or give it more time with --deadline.",
     "log: permission denied": f"The firmware log cannot be read: permission denied. {COPY}",
     "list: it is no regular file": f"The measurement list cannot be read: it is no regular file. {COPY}",
@@ -89,8 +89,8 @@ def test_differing(tools):
     ):
         tools.check(f"why a machine differs: {title}", reason_of_report(json.dumps(given)), wanted)
     for aggregate, wanted in (
-        ("wrong", "The boot aggregate is not the log's."), ("nobank", "The boot aggregate is by a bank that the log lacks."),
-        ("missing", "There is no boot aggregate."), ("good", "Entries are of unknown files."), ("old_kernel", "Entries are of unknown files."),
+        ("wrong", "The boot aggregate is not the log's."), ("nobank", "The boot aggregate uses a bank that the log lacks."),
+        ("missing", "There is no boot aggregate."), ("good", "Entries are for unknown files."), ("old_kernel", "Entries are for unknown files."),
     ):
         unknown = 2 if aggregate in ("good", "old_kernel") else 0
         tools.check(f"why a machine differs: boot aggregate {aggregate}", reason_of_report("{}", aggregate, unknown), wanted)
@@ -99,7 +99,7 @@ def test_differing(tools):
 def test_places(tools):
     """Machines with one error at several places have one reason, in the view and in the summary; each has its own place."""
     texts = {
-        "refused: log fault 1 at event {}": "The firmware event log is damaged at event {}: its bytes are not all there. Copy the log again.",
+        "refused: log fault 1 at event {}": "The firmware event log is damaged at event {}: it is cut short. Copy the log again.",
         "refused: replay fault 1 at entry {}": "The measurement list is damaged at entry {}: its template digest is wrong. Copy the list again.",
         "refused: expected fault 2 at line {}": "The PCR values are wrong at line {}: it repeats a PCR of its bank. State each PCR of a bank once.",
         "refused: key fault 17": "The key cannot be used: the key does not sign. Give the attestation key, not the endorsement key.",

@@ -32,8 +32,8 @@ NONCE, SIGN = "openssl rand -hex 20  # the nonce, in HEX", "ima-collect --nonce 
 ASK_KNOWN = ["Which files are unknown? Compare with digests that you know:", KNOWN, ""]
 ASK_BEFORE = ["What changed since an earlier boot? Compare with its folder:", BEFORE, ""]
 AGGREGATES = {
-    "wrong": "wrong: log and list are of different boots, or one of them was changed",
-    "nobank": "not checked: the log has no bank for it, so nothing says that log and list are of one boot",
+    "wrong": "wrong: log and list are from different boots, or one of them was changed",
+    "nobank": "not checked: the log has no bank for it, so nothing says that log and list are from one boot",
     "missing": "missing: the list does not begin with one",
 }
 BY_KEY, ALL = {"key": "k", "nonce": "00"}, {"known": ["k"], "before": "b"}
@@ -89,7 +89,7 @@ def differences():
     nowhere = "No part of the list makes the expected value of PCR 10: entries are missing, or were added or changed. Collect again:"
     unsaid = ("A quote does not say which PCR differs: expected.txt beside it does. If the list grew, judge the part that the quote covers. "
               "Otherwise ask for a new quote:")
-    log = "the log is of another boot, incomplete or changed."
+    log = "the log is from another boot, incomplete or changed."
     at = {"places": [{"bank": "sha256", "register": 10, "place": "entry", "number": 98}]}
     gone = {"places": [{"bank": "sha256", "register": 10, "place": "nowhere"}]}
     ten, quoted = report("differ", (10, "differ", "00")), report("differ", quote="differ")
@@ -122,7 +122,7 @@ def differences():
 
 def other_differences(gone, ten_says, nowhere):
     """Cases in which more than values of PCRs differs."""
-    boots, more = "Log and list must be of one boot. Collect both again:", AGAIN.format("--known /PATH/OF/MORE_SHA256SUMS ")
+    boots, more = "Log and list must be from one boot. Collect both again:", AGAIN.format("--known /PATH/OF/MORE_SHA256SUMS ")
     return {
         "unknown entries": (
             report("differ", unknown=[7]), ["Entry 7 is unknown."],
@@ -130,11 +130,11 @@ def other_differences(gone, ten_says, nowhere):
         ),
         "an event of the list's PCR": (
             report("differ", extends=[{"event": 25, "register": 10}]), ["Log and list are not apart: event 25 extends PCR 10."],
-            [["Look at this event or entry: nothing tells which of log and list extended its PCR.", "events"]],
+            [["Look at this event or entry: nothing shows whether log or list extended its PCR.", "events"]],
         ),
         "an entry of the log's PCR": (
             report("differ", extends=[{"entry": 7, "register": 9}]), ["Log and list are not apart: entry 7 extends PCR 9."],
-            [["Look at this event or entry: nothing tells which of log and list extended its PCR.", "entries"]],
+            [["Look at this event or entry: nothing shows whether log or list extended its PCR.", "entries"]],
         ),
         "two reasons to collect": (
             {**report("differ", (10, "differ", "00"), boot_aggregate="wrong"), **gone}, [ten_says, f"The boot aggregate is {AGGREGATES['wrong']}."],
@@ -148,7 +148,7 @@ def other_differences(gone, ten_says, nowhere):
 
 
 def errors():
-    copied = ["If the files were not copied whole, or are of different times, collect again:", COLLECT, ""]
+    copied = ["If the files were not copied whole, or are from different times, collect again:", COLLECT, ""]
     cut, gone = "refused: list fault 1 at entry 49", ["ima.list", 0, "", "it is not there", True]
     again = ["Run the same command again. If the error stays, keep the folder, and report an error of ima-agent.", ""]
     new = ["Ask for a new quote with a new nonce, and judge by that nonce:", NONCE, SIGN, ""]

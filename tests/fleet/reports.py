@@ -163,7 +163,7 @@ def reports_of(tools, calls):
 
 
 OTHER_VALUE = "log and list make another value than the expected one"
-WRONG_AGGREGATE = "The boot aggregate is wrong: log and list are of different boots, or one of them was changed."
+WRONG_AGGREGATE = "The boot aggregate is wrong: log and list are from different boots, or one of them was changed."
 # How a head looks: a match that is signed, one that is not, and no match.
 SIGNED, UNSIGNED, BAD = "state match", "state unquoted", "state"
 NOBODY = "not quoted: nobody signed the PCRs"
@@ -487,7 +487,7 @@ def test_report_by_quote(tools, folder):
     found = [(status, judged(page)[0]) for status, page, _ in reports_of(tools, weak)]
     tools.check("a quote of SHA-1 alone is asked for only with --sha1", found, [(2, "refused"), (4, "refused")])
     text, _ = state_of(unasked[1])
-    tools.check("a quote that is not looked at", ("Not quoted" in text, "was not looked at" in text), (True, True))
+    tools.check("a quote that is not looked at", ("Not quoted" in text, "was not used" in text), (True, True))
     calls = [(boot, *words) for words in (("--nonce", nonce), tuple(asked[:2]), ("--sha1",), ("--frobnicate",), ("--require", "a", "--require", "b"))]
     for (_, word, *_), (status, page, errors) in zip(calls, reports_of(tools, calls)):
         tools.check(f"refused arguments: {word}", (status, page.inner, "usage" in errors), (64, [], True))
@@ -552,7 +552,7 @@ def test_unknown_entries(tools, folder):
     test_unknown_and_unconfirmed(tools, folder, boot, known)
     all_known = ("--known", SAMPLES / "known/SHA256SUMS")
     other = make_boot(folder / "few, and other PCRs", ima=list_spelling(entries))
-    told = "None: each entry that was checked is of a known file."
+    told = "None: each entry that was checked is for a known file."
     for says, (status, page, _) in zip(("", " Nothing confirms these entries."), reports_of(tools, [(few, *all_known), (other, *all_known)])):
         found = (status, [each.text for each in page.all("p") if each.text.startswith("None: ")])
         tools.check(f"no unknown entries.{says}", found, (int(bool(says)), [told + says]))
@@ -594,9 +594,7 @@ def test_unknown_and_unconfirmed(tools, folder, boot, known):
 
 
 def list_fault(number):
-    """The words by which the program displays an error of a list: those of docs/errors.txt, or of tests/faults/words.txt where that has others."""
-    if other := re.search(rf"^List {number}: (.*)$", (ROOT / "tests/faults/words.txt").read_text(), re.MULTILINE):
-        return other[1]
+    """The words in which the program says what is wrong with a list: those of docs/errors.txt."""
     text = (ROOT / "docs/errors.txt").read_text()
     return re.search(rf"^ +{number}  (.*)$", text[text.index("List faults"):], re.MULTILINE)[1]
 

@@ -32,41 +32,41 @@ from .verdict import list_report, places, prefix_that_matches, rule_beside, stra
 MOST_LINES = 3
 HEAD = 4096
 
-OTHER_BOOT = "LOG is of another boot, or was changed; ima-agent events --explain --expected shows its events"
+OTHER_BOOT = "LOG is from another boot or was changed; ima-agent events --explain --expected shows its events"
 APART = "log and list cannot be told apart"
 AGGREGATES = {
-    "wrong": "the boot aggregate is another: log and list are of different boots, or one of them was changed",
-    "nobank": "LOG has no bank for the boot aggregate, so nothing says that log and list are of one boot",
-    "missing": "entry 0 is no boot aggregate: the list lacks its beginning, has another template, or was changed; with --require the boot aggregate "
-               "is also taken from ima-ngv2, ima-sigv2, ima-modsig",
+    "wrong": "the boot aggregate does not match LOG: log and list are from different boots, or one of them was changed",
+    "nobank": "LOG has no bank for the boot aggregate, so nothing shows that log and list are from the same boot",
+    "missing": "entry 0 is not a boot aggregate: the list lacks its beginning, has another template, or was changed; with --require, the boot "
+               "aggregate may also have the template ima-ngv2, ima-sigv2 or ima-modsig",
 }
-OLD_AGGREGATE = ("the boot aggregate is that of PCRs 0 to 7 alone, as some kernels before 5.8 record it: it does not bind PCRs 8 and 9 to the "
-                 "list; --old-kernel takes it beside --require")
+OLD_AGGREGATE = ("the boot aggregate covers only PCRs 0 to 7, as some kernels before 5.8 record it: it does not bind PCRs 8 and 9 to the list; "
+                 "with --require, --old-kernel accepts it")
 OLD_REGISTERS = range(8)
-NO_ENTRIES = "LIST is empty: copy the kernel's list with cat, since its size is given as 0"
+NO_ENTRIES = "LIST is empty: copy the kernel's list with cat, since the kernel reports its size as 0"
 NO_EXPECTED = "EXPECTED has no PCR, so no PCR was compared: give the values read with LIST"
 NOT_GIVEN = "add EXPECTED, the values read with the quote: its rows show which PCR differs"
 UNCONFIRMED = "EXPECTED is not what the TPM signed: give the values read with the quote"
-BY_HCRTM = "LOG has an H-CRTM event, which tells that PCR 0 began at 4: add --hcrtm, with which less differs"
-ONLY_SHA1 = ("PCR {} is required in the SHA-1 bank alone: whoever can make collisions can make another log or list with its value; require another "
-             "bank, too, if there is one")
-PADDED = "a kernel before 5.8 extended it by SHA-1 digests with zeros after them, "
+BY_HCRTM = "LOG has an H-CRTM event, which means that PCR 0 started at 4: add --hcrtm, with which less differs"
+ONLY_SHA1 = ("PCR {} is required only in the SHA-1 bank: anyone who can make collisions can make another log or list with its value; require another "
+             "bank too, if there is one")
+PADDED = "a kernel before 5.8 extended it with zero-padded SHA-1 digests, "
 
 # A report without rows, as text.
-BARE_MATCH = re.compile(rb"(?:events \d+ locality \d+\n)?entries \d+\n(?:boot_aggregate good\n)?verdict match\n")
+BARE_MATCH = re.compile(rb"(?:events \d+ locality \d+\n)?entries \d+\n(?:boot_aggregate good\n)?verdict match\n|match: 0 of 0 PCRs agree, [^\n]*\n")
 
-EMPTY = "it is empty: copy the kernel's files with cat, since their size is given as 0"
+EMPTY = "it is empty: copy the kernel's files with cat, since the kernel reports their size as 0"
 NOTHING_PRINTED = "it is empty: the tool printed nothing"
-LIST_FOR_LOG = "it is a measurement list, and no firmware event log"
-OLD_LOG = ("it is in the SHA-1 form of TPM 1.2: ima-agent log makes LOG of it, of the SHA-1 bank alone, which stops nobody who can make "
+LIST_FOR_LOG = "it is a measurement list, not a firmware event log"
+OLD_LOG = ("it is in the SHA-1 form of TPM 1.2: ima-agent log converts it to a LOG with only the SHA-1 bank, which stops nobody who can make "
            "collisions")
-LOG_FOR_LIST = "it is a firmware event log, and no measurement list"
-TEXT_FOR_LIST = "it is the list as text: take binary_runtime_measurements, which is beside it; or ima-agent list makes LIST of it"
-LIST_FOR_TEXT = "it is the binary list, which the other commands take as it is"
-PRINTED_FOR_EXPECTED = "it is what tpm2-tools print: ima-agent expected makes EXPECTED of it"
-EXPECTED_FOR_PRINTED = "it is EXPECTED already, which ima-agent verify takes as it is"
-CAPITALS = "its banks are in capital letters: write sha256 and the like"
-PEM_FOR_AREA = "it is PEM text: give the public area, as tpm2_createak -u writes it"
+LOG_FOR_LIST = "it is a firmware event log, not a measurement list"
+TEXT_FOR_LIST = "it is the list as text: give binary_runtime_measurements, which is beside it, or convert the text with ima-agent list"
+LIST_FOR_TEXT = "it is the binary list, which needs no conversion: give it to the other commands"
+PRINTED_FOR_EXPECTED = "it is tpm2-tools output: convert it to EXPECTED with ima-agent expected"
+EXPECTED_FOR_PRINTED = "it is EXPECTED already: give it to ima-agent verify as it is"
+CAPITALS = "its banks are in capital letters: write sha256, not SHA256"
+PEM_FOR_AREA = "it is PEM text: give the public area as tpm2_createak -u writes it"
 BANKS = tuple(f"{name} ".encode() for name in BY_NAME)
 PRINTED = (b"  sha", b"  sm3", b"pcrs:", b"sha1:", b"sha256:", b"sha384:", b"sha512:")
 
@@ -188,8 +188,8 @@ def lines_on(command, seen, counts):
     of_list = seen.first(differs, True)
     if counts and not seen.strays and (of_list or seen.beside):
         confirmed, entries = counts
-        yield (f"PCR 10 covers the first {confirmed} of {entries} entries: the list grew after it was read; collect again, or add --prefix to judge "
-               f"those {confirmed}")
+        yield (f"PCR 10 covers the first {confirmed} of {entries} entries: the list grew after PCR 10 was read; collect again, or add --prefix to "
+               f"judge only the first {confirmed}")
     elif seen.entries == 0:
         yield NO_ENTRIES
     elif seen.aggregate == "wrong" and seen.is_old:
@@ -198,15 +198,15 @@ def lines_on(command, seen, counts):
         yield AGGREGATES[seen.aggregate]
     elif of_list:
         older = "" if of_list.algorithm is SHA1 else PADDED
-        yield f"{of_list.algorithm.name} PCR 10 differs: it was read at another time than LIST, {older}or an entry is missing or was changed"
+        yield f"{of_list.algorithm.name} PCR 10 differs: it was read at a different time than LIST, {older}or an entry is missing or was changed"
     if seen.beside == "unconfirmed" or seen.beside == "not given" and not counts:
         yield UNCONFIRMED if seen.beside == "unconfirmed" else NOT_GIVEN
     for word, number, register in seen.strays:
         if word == "event":
             yield f"event {number} extends PCR 10, which only the list should: {APART}"
         elif command == "replay":
-            yield (f"entry {number} extends PCR {register}, as a rule with pcr= in the policy has it; replay takes a list whose entries extend PCR "
-                   "10 alone")
+            yield (f"entry {number} extends PCR {register}, as a policy rule with pcr= requests; replay accepts only lists whose entries all extend "
+                   "PCR 10")
         else:
             yield f"entry {number} extends PCR {register}, which only the log should: {APART}"
     if row := seen.first(differs, False):
@@ -214,17 +214,17 @@ def lines_on(command, seen, counts):
         if command == "replay":
             yield f"{place} differs: replay reads no log; ima-agent verify does"
         else:
-            yield f"{place} {'never has its value' if command == 'locate' else 'differs'}: {OTHER_BOOT}"
+            yield f"{place} {'never has the expected value' if command == 'locate' else 'differs'}: {OTHER_BOOT}"
     if seen.missing:
         algorithm, register = seen.missing[0]
         yield f"EXPECTED lacks {algorithm.name} PCR {register}: read it with the others"
     elif seen.is_bare:
         yield NO_EXPECTED
     if row := seen.first(("absent",)):
-        yield f"{row.algorithm.name} is no bank of LOG, so its PCRs cannot be judged: LOG is of another machine, or was changed"
+        yield f"{row.algorithm.name} is not a bank of LOG, so its PCRs cannot be judged: LOG is from another machine or was changed"
     if seen.unknown is not None:
-        yield (f"entry {seen.unknown} is the first that no known file has: ima-agent show names its file; compare that with the file in its "
-               "package")
+        yield (f"entry {seen.unknown} is the first that matches no known digest: ima-agent show names its file; compare that with the file in "
+               "its package")
 
 
 def next_steps(words, folder, standard_input=b"", has_prefix=True):
@@ -276,7 +276,7 @@ def said_of_padding(words, folder, standard_input=b""):
         _, padding = log_of(inputs.load_argument(*asked.names))
     finally:
         inputs.close()
-    return [f"padding cut: {padding} bytes behind the last event"] if padding else []
+    return [f"padding cut: {padding} bytes after the last event"] if padding else []
 
 
 def are_regular(words, folder, standard_input=None):

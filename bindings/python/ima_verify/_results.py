@@ -178,7 +178,7 @@ class Places:
 
 @dataclass(frozen=True, slots=True)
 class ConvertedLog:
-    """A crypto-agile log, and how many bytes behind the last event were left out of it."""
+    """A crypto-agile log, and how many bytes after the last event were left out of it."""
 
     log: bytes
     padding: int

@@ -1,12 +1,13 @@
 -- Words that are collected from an iterator.
-use Rattle.std.proofs.Common.{◌≡◌, ℕ, List, String, Vec, Result, IfOk, Ok, Err, length, drop, ap, ◌∙◌, vec_len, rules}
-use Rattle.std.specs.Prelude.{⊤}
+use Rattle.std.proofs.Common.{◌≡◌, ◌≤◌, ℕ, true, List, [], ◌∷◌, String, string_bytes, Vec, Result, IfOk, Ok, Err, length, drop, map, ap, ◌∙◌, vec_len, arith, rules}
+use Rattle.std.specs.Prelude.{⊤, insert}
 use Rattle.std.specs.Global.{Global}
 use Rattle.std.specs.declared.iter.Skip.{Skip}
 use Rattle.std.specs.declared.vec.IntoIter.{IntoIter}
 use Rattle.std.specs.Vec.Iter.{into_iter_items, into_iter_len, into_iter_steps}
 use Rattle.std.specs.Iterator.{DrainsIf}
 use Rattle.std.specs.Iterator.Adapters.{skip_source, skip_count, skip_steps}
+use Rattle.command_line.specs.Arguments.{takes_terminal}
 use Rattle.std.proofs.lemmas.Iterator.Adapters.{YieldsList-from_skip, YieldsList-from_vec, fact_from_collect}
 
 vec_of : {E : Type 0} (arguments : List (String Global)) (r : Result (Vec (String Global) Global) E)
@@ -22,3 +23,14 @@ collected_after arguments skipped n r source count ran =
     let counted : into_iter_len arguments ≡ length (into_iter_items arguments) = search rules in
     let given = YieldsList-from_vec (into_iter_items arguments) (ap into_iter_items source) (ap into_iter_len source ∙ counted) in
     vec_of (drop n (into_iter_items arguments)) r (fact_from_collect (λ xs v. (v.items ≡ xs) × (vec_len v ≡ length xs)) r ran (YieldsList-from_skip n given count))
+
+-- One argument more, after the first.
+pub inserted : (arguments : List (String Global)) (word : String Global) (text : List ℕ) → string_bytes word ≡ text
+    → map string_bytes (insert arguments 1 word) ≡ insert (map string_bytes arguments) 1 text
+inserted [] word text is = ap (λ (t : List ℕ). t ∷ []) is
+inserted (first ∷ rest) word text is = ap (λ (t : List ℕ). string_bytes first ∷ t ∷ map string_bytes rest) is
+
+-- Arguments that take the flag are not none.
+pub some_argument : (arguments : List (String Global)) → takes_terminal arguments ≡ true → 1 ≤ length arguments
+some_argument [] takes = cc
+some_argument (first ∷ rest) takes = omega arith

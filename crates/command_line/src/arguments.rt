@@ -4,7 +4,7 @@ ghost use Rattle.std.specs.Prelude.{◌≡◌, ◌==◌, ◌||◌, [], None, Ok,
 ghost use Rattle.clap.specs.Values.{kind_of};
 ghost use Rattle.clap.specs.Words.{Text as Words, found_of, rows_of, subcommand_rows_of};
 ghost use Rattle.std.specs.Vec.Iter.{into_iter_items};
-ghost use Rattle.agent_plans.specs.Plans.{IsWithinRanges, IsWithin, NamesKnown, TakesKnown};
+ghost use Rattle.agent_plans.specs.Plans.{HasLook, IsWithinRanges, IsWithin, NamesKnown, TakesKnown, look_of};
 ghost use Rattle.command_line.specs.Arguments.{BeginsWithVersion, HasHelpWord, HasComparison, HasQuery, HasValues, HasValuesIn, IsRequestedBy, IsHelp, IsPlanOrHelp, IsShownAs, asks_first, asks_help, asks_json, asks_quiet, asks_version, begins_with, choice_asked, choice_at, choice_next, choice_of, color_choice, ends_options, help_options, is_color_word, is_json_word, is_quiet_word, may_color, reports};
 ghost use Rattle.std.specs.List.{list_any};
 ghost use Rattle.cells.specs.declared.writer.Form.TheVariants.{Text};
@@ -14,11 +14,12 @@ ghost use Rattle.agent_plans.specs.declared.plan.Task.TheVariants.{Version};
 
 use crate::command_table::{KnownNames, all_commands};
 use crate::values::{
-    attest_of, boot_of, conversion_of, events_of, flag_of, key_of, known_of, log_of,
-    measurement_of, name_of, old_kernel_of, text_if_given,
+    attest_of, boot_of, conversion_of, events_of, flag_of, key_of, known_of, log_of, look_for,
+    look_of, measurement_of, name_of, old_kernel_of, text_if_given,
 };
 use agent_plans::{
-    ArgumentsFault, ComparisonKind, ComparisonOptions, Conversion, Form, Plan, Query, Scope, Task,
+    ArgumentsFault, ComparisonKind, ComparisonOptions, Conversion, Form, Look, Plan, Query, Scope,
+    Task,
 };
 use clap::error::ErrorKind;
 use clap::{ArgMatches, Error};
@@ -31,9 +32,17 @@ use terminal_colors::ColorChoice;
 
 // What is wrong with `--print binary` beside `--json`.
 const NO_JSON_OF_BYTES: &str =
-    "error: invalid value 'binary' for '--print <OUTPUT>' with '--json'\n";
+    "error: the argument '--print binary' cannot be used with '--json'\n";
 
-// What is wrong with `--known` where no registers are required.
+// What is wrong with `--summary` and `--terminal` beside `--json` and each other.
+const SUMMARY_AS_JSON: &str = "error: the argument '--summary' cannot be used with '--json'\n";
+
+const TERMINAL_AS_JSON: &str = "error: the argument '--terminal' cannot be used with '--json'\n";
+
+const SUMMARY_BESIDE_TERMINAL: &str =
+    "error: the argument '--summary' cannot be used with '--terminal'\n";
+
+// What is wrong with `--known` where no PCRs are required.
 const KNOWN_WITHOUT_REQUIRED: &str =
     "error: the argument '--known <FILE>' cannot be used without '--require'\n";
 
@@ -59,10 +68,10 @@ const EXPECTED_BESIDE_QUOTE: &str =
 
 // What is wrong with `-` twice, and as the log of an earlier boot.
 const STANDARD_INPUT_TWICE: &str =
-    "error: the argument '--expected <EXPECTED>' cannot be '-' if '<LOG>' is\n";
+    "error: '<LOG>' and '--expected <EXPECTED>' cannot both be '-'\n";
 
 const STANDARD_INPUT_EARLIER: &str =
-    "error: invalid value '-' for '--before <OLD_LOG>': it is no file\n";
+    "error: invalid value '-' for '--before <OLD_LOG>': it must be a file\n";
 
 // What is wrong with `--quote` without what is asked of a quote.
 const QUOTE_WITHOUT_LIST: &str =
@@ -98,7 +107,7 @@ const SIGNATURE_WITHOUT_QUOTE: &str =
 const CHECKED_WITHOUT_QUOTE: &str =
     "error: the argument '--signature-checked' cannot be used without '--quote'\n";
 
-// What is wrong with a key or a signature alone, and beside `--signature-checked`.
+// What is wrong with a key without a signature, or a signature without a key, and with a key beside `--signature-checked`.
 const KEY_WITHOUT_SIGNATURE: &str =
     "error: the argument '--key <KEY>' cannot be used without '--signature'\n";
 
@@ -129,10 +138,9 @@ pub fn read_words(alloc: Global, arguments: &[String]) -> Result<Plan, Arguments
     }
 }
 
-/// What `clap` says of arguments that it refuses, or what is wrong with `--print binary` beside `--json`, with options of `attest`, `events` or
-/// `boot` that do not go together, with known files where no registers are required, or with a nonce that is not hexadecimal: lines for a person,
-/// which may have any bytes of the arguments. `None` if `clap` takes them, and they are no such; of `--help` and `--version` it is what
-/// `clap` shows.
+/// What is wrong with arguments that are refused: lines for a person, which may have any bytes of the arguments. If `clap` refuses them, this is
+/// its message. Otherwise options that do not go together, or a nonce that is not hexadecimal, are named. `None` if nothing is wrong. For
+/// `--help` and `--version` it is what `clap` shows.
 pub fn refusal_of(alloc: Global, arguments: &[String]) -> Result<Option<String>, AllocError>
     // Without arguments nothing is refused.
     ensures none { arguments.now ≡ [] → result ≡ Ok None }
@@ -162,7 +170,7 @@ fn nonce_refusal(alloc: Global, matches: &ArgMatches) -> Result<Option<String>, 
         Ok(_) => Ok(None),
         Err(FromHexError::OutOfMemory) => Err(AllocError),
         Err(_) => Ok(Some(format!(in alloc;
-            "error: invalid value '{nonce}' for '--nonce <HEX>': it is not hexadecimal\n"
+            "error: invalid value '{nonce}' for '--nonce <HEX>': it must be hexadecimal, two digits per byte\n"
         )?)),
     }
 }
@@ -189,22 +197,41 @@ fn wrong_pair(matches: &ArgMatches) -> Option<&'static str> {
         return wrong_pair_of_quote(matches).or(wrong_standard_input(matches));
     }
     if let Some(matches) = matches.subcommand_matches("attest") {
-        return wrong_pair_of_signing(matches);
+        return wrong_pair_of_signing(matches).or(wrong_pair_of_look(matches));
     }
     if let Some(matches) = matches.subcommand_matches("verify") {
-        return wrong_pair_of_known(matches).or(wrong_pair_of_old_kernel(matches));
+        return wrong_pair_of_known(matches)
+            .or(wrong_pair_of_old_kernel(matches))
+            .or(wrong_pair_of_look(matches));
     }
-    wrong_pair_of_known(matches.subcommand_matches("replay")?)
+    let matches = matches.subcommand_matches("replay")?;
+    wrong_pair_of_known(matches).or(wrong_pair_of_look(matches))
 }
 
-// Whether an older kernel's boot aggregate is to be taken where no registers are required.
+// Whether a verdict is to be shown in two ways.
+fn wrong_pair_of_look(matches: &ArgMatches) -> Option<&'static str> {
+    let is_summary = is_set(matches, "summary");
+    let is_terminal = is_set(matches, "terminal");
+    let is_json = is_set(matches, "json");
+    if is_summary && is_json {
+        Some(SUMMARY_AS_JSON)
+    } else if is_terminal && is_json {
+        Some(TERMINAL_AS_JSON)
+    } else if is_summary && is_terminal {
+        Some(SUMMARY_BESIDE_TERMINAL)
+    } else {
+        None
+    }
+}
+
+// Whether an older kernel's boot aggregate is to be taken where no PCRs are required.
 fn wrong_pair_of_old_kernel(matches: &ArgMatches) -> Option<&'static str> {
     (is_set(matches, "old-kernel") && !matches.contains_id("require")).then_some(
         OLD_KERNEL_WITHOUT_REQUIRED,
     )
 }
 
-// Whether known files are named where no registers are required.
+// Whether known files are named where no PCRs are required.
 fn wrong_pair_of_known(matches: &ArgMatches) -> Option<&'static str> {
     (matches.contains_id("known") && !matches.contains_id("require")).then_some(
         KNOWN_WITHOUT_REQUIRED,
@@ -218,7 +245,7 @@ fn wrong_pair_of_measure(matches: &ArgMatches) -> Option<&'static str> {
     )
 }
 
-// Whether events are to be explained in a form that has no room for it, or expected registers or a quote are given to one; or what is wrong
+// Whether events are to be explained in a form that has no room for it, or expected PCRs or a quote are given to one; or what is wrong
 // with the quote.
 fn wrong_pair_of_events(matches: &ArgMatches) -> Option<&'static str> {
     let explains = is_set(matches, "explain");
@@ -237,7 +264,7 @@ fn wrong_pair_of_events(matches: &ArgMatches) -> Option<&'static str> {
     }
 }
 
-// Whether log and expected registers are both standard input, or the log of an earlier boot is.
+// Whether log and expected PCRs are both standard input, or the log of an earlier boot is.
 fn wrong_standard_input(matches: &ArgMatches) -> Option<&'static str> {
     if is_dash(matches, "LOG") && is_dash(matches, "expected") {
         Some(STANDARD_INPUT_TWICE)
@@ -248,7 +275,7 @@ fn wrong_standard_input(matches: &ArgMatches) -> Option<&'static str> {
     }
 }
 
-// Whether a quote is given beside expected registers, or lacks something that is asked of it, or this is given without one.
+// Whether a quote is given beside expected PCRs, or lacks something that is asked of it, or this is given without one.
 fn wrong_pair_of_quote(matches: &ArgMatches) -> Option<&'static str> {
     if !matches.contains_id("quote") {
         without_quote(matches)
@@ -265,7 +292,7 @@ fn wrong_pair_of_quote(matches: &ArgMatches) -> Option<&'static str> {
     }
 }
 
-// Whether a key or a signature is given alone, or beside the caller's word.
+// Whether a key or a signature is given without the other, or beside `--signature-checked`.
 fn wrong_pair_of_signing(matches: &ArgMatches) -> Option<&'static str> {
     let is_checked = is_set(matches, "signature-checked");
     match (matches.contains_id("key"), matches.contains_id("signature")) {
@@ -381,15 +408,22 @@ fn task_of(
         "log" => conversion_of(alloc, matches, Conversion::Log, form),
         "show" => Ok(Task::Entries {
             list: name_of(alloc, matches, "LIST")?,
+            partial: flag_of(matches, "partial", false, true)?,
         }),
-        _ => Ok(Task::Answer(question_of(alloc, command, matches)?)),
+        _ => Ok(Task::Answer(question_of(alloc, command, matches, form)?)),
     }
 }
 
-// What the command of this name asks.
-fn question_of(alloc: Global, command: &str, matches: &ArgMatches) -> Result<Query, ArgumentsFault>
+// What the command of this name asks, whose answer is shown in this form.
+fn question_of(
+    alloc: Global,
+    command: &str,
+    matches: &ArgMatches,
+    form: Form,
+) -> Result<Query, ArgumentsFault>
     ensures values { IfOk result (HasQuery command.now (rows_of (found_of matches.now))) }
     ensures known { IfOk result NamesKnown }
+    ensures look { IfOk result (λ question. HasLook form (look_of question)) }
 {
     match command {
         "verify" => {
@@ -399,11 +433,12 @@ fn question_of(alloc: Global, command: &str, matches: &ArgMatches) -> Result<Que
                 resume: text_if_given(alloc, matches, "resume")?,
                 save: text_if_given(alloc, matches, "save")?,
             };
-            Ok(Query::Comparison(comparison_of(alloc, matches, kind)?))
+            Ok(Query::Comparison(comparison_of(alloc, matches, kind, form)?))
         }
         "locate" => {
             let log = log_of(alloc, matches)?;
-            Ok(Query::Comparison(comparison_of(alloc, matches, ComparisonKind::Positions { log })?))
+            let kind = ComparisonKind::Positions { log };
+            Ok(Query::Comparison(comparison_of(alloc, matches, kind, form)?))
         }
         "expected" => Ok(Query::Expected {
             printed: name_of(alloc, matches, "PCRREAD")?,
@@ -413,21 +448,23 @@ fn question_of(alloc: Global, command: &str, matches: &ArgMatches) -> Result<Que
         "registers" => Ok(Query::LogRegisters {
             log: log_of(alloc, matches)?,
         }),
-        "replay" => replay_of(alloc, matches),
-        "attest" => Ok(Query::Attestation(attest_of(alloc, matches)?)),
+        "replay" => replay_of(alloc, matches, form),
+        "attest" => Ok(Query::Attestation(attest_of(alloc, matches, form)?)),
         _ => Err(ArgumentsFault::Usage),
     }
 }
 
-// What is asked of a list and expected registers, if this is judged.
+// What is asked of a list and expected PCRs, if this is judged.
 fn comparison_of(
     alloc: Global,
     matches: &ArgMatches,
     kind: ComparisonKind,
+    form: Form,
 ) -> Result<ComparisonOptions, ArgumentsFault>
     ensures values { IfOk result (λ judge. (command : Words) → HasComparison command (rows_of (found_of matches.now)) kind
         → HasQuery command (rows_of (found_of matches.now)) (queries.Comparison judge)) }
     ensures known { IfOk result (λ judge. NamesKnown (queries.Comparison judge)) }
+    ensures look { IfOk result (λ judge. HasLook form judge.look) }
 {
     let required = text_if_given(alloc, matches, "require")?;
     Ok(ComparisonOptions {
@@ -435,16 +472,18 @@ fn comparison_of(
         expected: name_of(alloc, matches, "EXPECTED")?,
         known: known_of(alloc, matches, &kind, &required)?,
         old_kernel: old_kernel_of(matches, &kind, &required)?,
+        look: look_for(matches, &kind, form)?,
         kind,
         required,
         explained: flag_of(matches, "explain", false, true)?,
     })
 }
 
-// What `replay` asks. Refuses `--require` and `--explain` without EXPECTED, and `--known` without `--require`.
-fn replay_of(alloc: Global, matches: &ArgMatches) -> Result<Query, ArgumentsFault>
+// What `replay` asks. Refuses `--require`, `--explain` and `--summary` without EXPECTED, and `--known` without `--require`.
+fn replay_of(alloc: Global, matches: &ArgMatches, form: Form) -> Result<Query, ArgumentsFault>
     ensures values { IfOk result (HasQuery (codes "replay") (rows_of (found_of matches.now))) }
     ensures known { IfOk result NamesKnown }
+    ensures look { IfOk result (λ question. HasLook form (look_of question)) }
 {
     let list = name_of(alloc, matches, "LIST")?;
     let expected = text_if_given(alloc, matches, "EXPECTED")?;
@@ -452,18 +491,24 @@ fn replay_of(alloc: Global, matches: &ArgMatches) -> Result<Query, ArgumentsFaul
     let kind = ComparisonKind::ListVerdict;
     let known = known_of(alloc, matches, &kind, &required)?;
     let explained = flag_of(matches, "explain", false, true)?;
-    match (expected, required, known, explained) {
-        (Some(expected), required, known, explained) => Ok(Query::Comparison(ComparisonOptions {
-            kind,
+    let look = look_of(matches, form)?;
+    match (expected, required, known, explained, look) {
+        (Some(expected), required, known, explained, look) => Ok(Query::Comparison(
+            ComparisonOptions {
+                kind,
+                list,
+                expected,
+                required,
+                known,
+                old_kernel: false,
+                explained,
+                look,
+            },
+        )),
+        (None, None, None, false, Look::Plain | Look::Terminal) => Ok(Query::ListRegisters {
             list,
-            expected,
-            required,
-            known,
-            old_kernel: false,
-            explained,
-        })),
-        (None, None, None, false) => Ok(Query::ListRegisters { list }),
-        (None, _, _, _) => Err(ArgumentsFault::Usage),
+        }),
+        (None, _, _, _, _) => Err(ArgumentsFault::Usage),
     }
 }
 

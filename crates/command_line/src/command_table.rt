@@ -95,23 +95,23 @@ const LIST: ArgumentRow<'static> = row!("LIST"; ArgumentForm::Required);
 /// A file of another form.
 const FILE: ArgumentRow<'static> = row!("FILE"; ArgumentForm::Required);
 
-/// Expected registers.
+/// Expected PCRs.
 const EXPECTED: ArgumentRow<'static> = row!("EXPECTED"; ArgumentForm::Required);
 
-/// Expected registers, or none.
+/// Expected PCRs, or none.
 const EXPECTED_IF_GIVEN: ArgumentRow<'static> = row!("EXPECTED"; ArgumentForm::Omittable);
 
-/// Expected registers that tell what of a log is confirmed.
+/// Expected PCRs, which say what part of a log is confirmed.
 const CONFIRMED: ArgumentRow<'static> = row!("expected"; ArgumentForm::Optional("EXPECTED"));
 
-/// A quote that tells what of a log is confirmed, with the list that it is also of, and what it must be.
+/// A quote, which says what part of a log is confirmed, the list that it also covers, and its nonce.
 const QUOTE: ArgumentRow<'static> = row!("quote"; ArgumentForm::Optional("QUOTE"));
 
 const QUOTED_LIST: ArgumentRow<'static> = row!("list"; ArgumentForm::Optional("LIST"));
 
 const NONCE: ArgumentRow<'static> = row!("nonce"; ArgumentForm::Optional("HEX"));
 
-/// Whether registers of the SHA-1 bank alone are taken.
+/// Whether PCRs that are required only in the SHA-1 bank are accepted.
 const SHA1: ArgumentRow<'static> = row!("sha1"; ArgumentForm::Flag);
 
 /// Whether the boot aggregate of an older kernel is taken.
@@ -137,13 +137,19 @@ const PREFIX: ArgumentRow<'static> = row!("prefix"; ArgumentForm::Flag);
 /// Where the checkpoint is saved.
 const SAVE: ArgumentRow<'static> = row!("save"; ArgumentForm::Optional("FILE"));
 
-/// The checkpoint to go on from.
+/// The checkpoint to continue from.
 const RESUME: ArgumentRow<'static> = row!("resume"; ArgumentForm::Optional("FILE"));
 
 /// Whether standard error says what to do next even if it is no terminal.
 const EXPLAIN: ArgumentRow<'static> = row!("explain"; ArgumentForm::Flag);
 
-/// Whether the H-CRTM's event tells where the machine started.
+/// Whether one line is printed in place of the report.
+const SUMMARY: ArgumentRow<'static> = row!("summary"; ArgumentForm::Flag);
+
+/// Whether the report is printed as on a terminal.
+const TERMINAL: ArgumentRow<'static> = row!("terminal"; ArgumentForm::Flag);
+
+/// Whether the H-CRTM's event says where the machine started.
 const HCRTM: ArgumentRow<'static> = row!("hcrtm"; ArgumentForm::Flag);
 
 /// When the result is coloured.
@@ -161,8 +167,8 @@ static COMMANDS: [CommandRow; 13] = [
         name: "verify",
         about: with_abouts!(; verify),
         arguments: &[
-            REQUIRE, OLD_KERNEL, KNOWN, PREFIX, SAVE, RESUME, HCRTM, EXPLAIN, COLOR, JSON, QUIET,
-            LOG, LIST, EXPECTED,
+            REQUIRE, OLD_KERNEL, KNOWN, PREFIX, SAVE, RESUME, HCRTM, EXPLAIN, SUMMARY, TERMINAL,
+            COLOR, JSON, QUIET, LOG, LIST, EXPECTED,
         ],
     },
     CommandRow {
@@ -182,6 +188,8 @@ static COMMANDS: [CommandRow; 13] = [
             RESUME,
             HCRTM,
             EXPLAIN,
+            SUMMARY,
+            TERMINAL,
             COLOR,
             JSON,
             QUIET,
@@ -198,6 +206,8 @@ static COMMANDS: [CommandRow; 13] = [
             row!("require"; ArgumentForm::OptionalBeside("SELECTION", "EXPECTED")),
             KNOWN,
             row!("explain"; ArgumentForm::FlagBeside("EXPECTED")),
+            row!("summary"; ArgumentForm::FlagBeside("EXPECTED")),
+            TERMINAL,
             COLOR,
             JSON,
             QUIET,
@@ -258,7 +268,7 @@ static COMMANDS: [CommandRow; 13] = [
     CommandRow {
         name: "show",
         about: with_abouts!(; show),
-        arguments: &[JSON, QUIET, LIST],
+        arguments: &[row!("partial"; ArgumentForm::Flag), JSON, QUIET, LIST],
     },
     CommandRow {
         name: "registers",
@@ -340,7 +350,7 @@ pub(crate) fn all_commands<'a>(alloc: Global, known: KnownNames<'a>) -> Built<'a
     Ok(program)
 }
 
-// The rows of all commands. It is a function of its own, since a static that is borrowed makes a proof dear.
+// The rows of all commands. It is a function of its own, since a static that is borrowed makes a proof expensive.
 fn rows<'a>() -> &'a [CommandRow<'a>]
     ensures { (known : KnownNames) → (parsers : Parsers) × (fold (with_row known) program_app result.now ≡ commands parsers) }
 {

@@ -6,13 +6,13 @@ macro_rules! with_abouts {
         concat!($($begun),*)
     };
     ($($begun:literal)*; verify $($more:tt)*) => {
-        with_abouts!($($begun)* "Compares the PCRs that log and list make with expected PCRs"; $($more)*)
+        with_abouts!($($begun)* "Replays log and list, and compares the PCRs with expected values"; $($more)*)
     };
     ($($begun:literal)*; attest $($more:tt)*) => {
-        with_abouts!($($begun)* "Compares the PCRs that log and list make with a quote of the TPM"; $($more)*)
+        with_abouts!($($begun)* "Replays log and list, and compares the PCRs with a TPM's quote"; $($more)*)
     };
     ($($begun:literal)*; replay $($more:tt)*) => {
-        with_abouts!($($begun)* "Prints the PCRs that a list alone makes, or compares them"; $($more)*)
+        with_abouts!($($begun)* "Replays a list without its log, and prints or compares the PCRs"; $($more)*)
     };
     ($($begun:literal)*; locate $($more:tt)*) => {
         with_abouts!($($begun)* "Prints which event or entry first gives each PCR its expected value"; $($more)*)
@@ -30,19 +30,19 @@ macro_rules! with_abouts {
         with_abouts!($($begun)* "Prints the PCRs that a log changes"; $($more)*)
     };
     ($($begun:literal)*; expected $($more:tt)*) => {
-        with_abouts!($($begun)* "Prints expected PCRs, from what tpm2-tools printed"; $($more)*)
+        with_abouts!($($begun)* "Converts the output of tpm2-tools to expected PCRs"; $($more)*)
     };
     ($($begun:literal)*; key $($more:tt)*) => {
-        with_abouts!($($begun)* "Prints name and PEM of a TPM's key, if the key is restricted"; $($more)*)
+        with_abouts!($($begun)* "Checks that a TPM's key is restricted, and prints its name and PEM"; $($more)*)
     };
     ($($begun:literal)*; list $($more:tt)*) => {
-        with_abouts!($($begun)* "Prints the binary list of which a file is the kernel's text"; $($more)*)
+        with_abouts!($($begun)* "Converts a list from the kernel's text form to binary"; $($more)*)
     };
     ($($begun:literal)*; log $($more:tt)*) => {
-        with_abouts!($($begun)* "Prints a log in the SHA-1 form, or with padding, as the crypto-agile log"; $($more)*)
+        with_abouts!($($begun)* "Converts a log in the SHA-1 form, or with padding, to a crypto-agile log"; $($more)*)
     };
     ($($begun:literal)*; measure $($more:tt)*) => {
-        with_abouts!($($begun)* "Measures files as IMA does, from the PCRs of a log, without a TPM"; $($more)*)
+        with_abouts!($($begun)* "Measures files as IMA does, starting from a log's PCRs, without a TPM"; $($more)*)
     };
     ($($begun:literal)*; $text:literal $($more:tt)*) => {
         with_abouts!($($begun)* $text; $($more)*)
@@ -57,7 +57,7 @@ pub(crate) const PROGRAM_USAGE: &str = "ima-agent [COMMAND]";
 /// The help of the program.
 pub(crate) const PROGRAM_HELP: &str = with_abouts!(;
     "\
-Checks whether a firmware log and an IMA list make the values that a TPM's PCRs have.
+Checks a machine's firmware log and IMA list against the PCRs of its TPM.
 
 Usage: ima-agent [COMMAND]
 
@@ -87,19 +87,19 @@ Options:
   -V, --version  Print version
   -h, --help     Print help; after a command, its arguments and an example
 
-A log is a copy of /sys/kernel/security/tpm0/binary_bios_measurements, a list of
+Copy a log from /sys/kernel/security/tpm0/binary_bios_measurements, and a list from
 /sys/kernel/security/ima/binary_runtime_measurements. An input has at most 64 MiB.
-
-Without a command: prints the PCRs of a log in hexadecimal, on standard input.
+Without a command: reads a hexadecimal log from standard input, and prints its PCRs.
 
 Exit status:
   0  success; if there is a verdict, it is `match`
-  1  the verdict is `differ`, or a value is not located
+  1  the verdict is `differ`, or `locate` ends in `not located`
   2  the arguments or an input are refused
   3  an input cannot be read, an output cannot be written, or memory ran out
-  4  a quote, its key or signature is refused, or nobody verified the signature
+  4  a quote, its key or its signature is refused, or the signature was not verified
 
-`man ima-agent` has the lines of reports, and what the numbers of errors mean."
+`man ima-agent` describes the commands. In share/doc/ima-agent, below the prefix of the
+installation, reports.txt explains each line of a report, and errors.txt each error."
 );
 
 /// The end of a command's help: an example, the exit statuses that the command has, and its errors that have numbers.
@@ -119,7 +119,7 @@ macro_rules! help_end {
   2  the arguments or an input are refused
   3  an input cannot be read, an output cannot be written, or memory ran out",
             $("\n  4  ", $unquoted,)?
-            "\n\nErrors with numbers (man ima-agent): ",
+            "\n\nNumbered errors (share/doc/ima-agent/errors.txt): ",
             $errors
         )
     };
@@ -131,7 +131,7 @@ pub(crate) fn help_end_of<'a>(command: &str) -> &'a str {
         "verify" => help_end!(
             "ima-agent verify --require sha256:0-10 firmware.log ima.list expected.txt";
             0 "the verdict is `match`: all expected PCRs and the boot aggregate match"
-            1 "the verdict is `differ`: one does not, or --require or --known is not met";
+            1 "the verdict is `differ`: one does not match, or --require or --known is not met";
             "log, list, replay, expected, checkpoint, known"
         ),
         "attest" => help_end!(
@@ -145,26 +145,26 @@ ima-agent attest --key ../keys/machine/machine.pub --signature quote.sig \\
         ),
         "replay" => help_end!(
             "ima-agent replay --require sha256:10 ima.list expected.txt";
-            0 "the verdict is `match`; without EXPECTED: all is printed"
-            1 "the verdict is `differ`: a PCR does, or --require or --known is not met";
+            0 "the verdict is `match`; without EXPECTED, all output was written"
+            1 "the verdict is `differ`: a PCR does not match, or --require or --known is not met";
             "list, replay, expected, known"
         ),
         "locate" => help_end!(
             "ima-agent locate firmware.log ima.list expected.txt";
-            0 "each expected value is located, which is no verdict"
-            1 "a value is not located, a PCR is missing, or none is expected";
+            0 "every expected value is located; this is not a verdict"
+            1 "a value is not located, a required PCR is missing, or EXPECTED has no PCR";
             "log, list, replay, expected"
         ),
         "boot" => help_end!(
             "ima-agent boot --expected expected.txt firmware.log";
-            0 "all is printed; with --quote the verdict of `attest` is `match`"
+            0 "all output was written; with --quote, the verdict of `attest` is `match`"
             1 "with --quote: the verdict is `differ`, and nothing is confirmed"
             4 "QUOTE, KEY or SIG is refused, or --key and --signature are missing";
             "log, expected, key, signature, quote, list, replay"
         ),
         "events" => help_end!(
             "ima-agent events --explain --expected expected.txt firmware.log";
-            0 "all is printed; with --quote the verdict of `attest` is `match`"
+            0 "all output was written; with --quote, the verdict of `attest` is `match`"
             1 "with --quote: the verdict is `differ`, and nothing is confirmed"
             4 "QUOTE, KEY or SIG is refused, or --key and --signature are missing";
             "log, expected, key, signature, quote, list, replay"
@@ -176,28 +176,30 @@ ima-agent attest --key ../keys/machine/machine.pub --signature quote.sig \\
 // The end of the help of a command that gives no verdict.
 fn help_end_of_other<'a>(command: &str) -> &'a str {
     match command {
-        "show" => help_end!("ima-agent show ima.list"; 0 "all is printed"; "list"),
-        "registers" => help_end!("ima-agent registers firmware.log"; 0 "all is printed"; "log"),
+        "show" => help_end!("ima-agent show ima.list"; 0 "all output was written"; "list"),
+        "registers" =>
+            help_end!("ima-agent registers firmware.log"; 0 "all output was written"; "log"),
         "expected" => help_end!(
             "ima-agent expected --registers sha256:0-10 pcrread.txt > expected.txt";
-            0 "all is printed";
+            0 "all output was written";
             "expected"
         ),
         "list" => help_end!(
             "ima-agent list ascii_runtime_measurements > ima.list";
-            0 "all is printed";
+            0 "all output was written";
             "text list"
         ),
         "log" => help_end!(
             "ima-agent log binary_bios_measurements > firmware.log";
-            0 "all is printed; standard error says how much padding was cut";
+            0 "all output was written; standard error says how much padding was cut";
             "log form"
         ),
-        "key" => help_end!("ima-agent key --print pem ak.pub > ak.pem"; 0 "all is printed"; "key"),
+        "key" =>
+            help_end!("ima-agent key --print pem ak.pub > ak.pem"; 0 "all output was written"; "key"),
         _ => help_end!(
             "ima-agent measure --print registers firmware.log /bin/sh /bin/ls";
-            0 "all is printed";
-            "log, book, gather (an error of the program itself)"
+            0 "all output was written";
+            "log, book, gather (an internal error)"
         ),
     }
 }
@@ -224,17 +226,20 @@ pub(crate) fn help_of<'a>(command: &str, id: &str) -> &'a str {
         "EXPECTED" => help_of_expected(command),
         "require" => help_of_require(command),
         "known" => help_of_known(command),
-        "hcrtm" => "An H-CRTM event of LOG tells that PCR 0 began at 4",
+        "hcrtm" => "Start PCR 0 at 4 if LOG has an H-CRTM event",
         "explain" => help_of_explain(command),
         "color" => "When the verdict and states have colours\n",
+        "summary" => help_of_summary(command),
+        "terminal" => "Print PCRs at reset last, and marked, as on a terminal",
+        "partial" => "Print the entries before an error, as --json does",
         "json" => help_of_json(command),
-        "quiet" => "Say nothing on standard error",
-        "nonce" => "The quote's nonce, in hexadecimal, 16 bytes or more",
-        "sha1" => "Accept PCRs in the SHA-1 bank alone: SHA-1 has collisions",
+        "quiet" => "Print nothing on standard error",
+        "nonce" => "The quote's nonce in hexadecimal, at least 16 bytes",
+        "sha1" => "Accept PCRs required only in SHA-1, which has collisions",
         "old-kernel" => help_of_old_kernel(command),
-        "key" => "The machine's key: public area, or PEM of `ima-agent key`",
-        "signature" => "Its signature of QUOTE, as `tpm2_quote -s` writes it",
-        "signature-checked" => "Without these: you have verified the signature yourself",
+        "key" => "The machine's key: public area, or PEM (`ima-agent key`)",
+        "signature" => "Signature of QUOTE, as `tpm2_quote -s` writes it",
+        "signature-checked" => "Instead of these: you verified the signature yourself",
         _ => match command {
             "verify" | "attest" => help_of_verdict(command, id),
             "measure" => help_of_measure(id),
@@ -261,16 +266,16 @@ The kernel's ascii_runtime_measurements, or - for standard
 input",
         _ => "\
 Firmware event log in the SHA-1 form of TPM 1.2, or with
-padding behind its last event, or - for standard input.
-SHA-1 alone stops nobody who can make collisions",
+padding after its last event, or - for standard input.
+With SHA-1 collisions, another log can have the same PCRs",
     }
 }
 
 // The help of EXPECTED.
 fn help_of_expected<'a>(command: &str) -> &'a str {
     match command {
-        "attest" => "Expected PCRs: rows for the report. They decide nothing",
-        "replay" => "Expected PCRs; without them the list's own are printed",
+        "attest" => "Expected PCRs, for rows in the report; they change no verdict",
+        "replay" => "Expected PCRs; without them, the list's PCRs are printed",
         _ => "Expected PCRs, as `ima-agent expected` prints them",
     }
 }
@@ -278,16 +283,16 @@ fn help_of_expected<'a>(command: &str) -> &'a str {
 // The help of --require.
 fn help_of_require<'a>(command: &str) -> &'a str {
     match command {
-        "attest" | "events" | "boot" => "PCRs that must be quoted, 0 to 10 at least: sha256:0-10",
+        "attest" | "events" | "boot" => "PCRs that must be quoted, at least 0 to 10: sha256:0-10",
         "replay" => selection_help!(
             "\
-PCRs that EXPECTED must have, 10 among them, such as
+PCRs that EXPECTED must have, including PCR 10, such as
 sha256:10 or sha256:10+sha1:10. Only with EXPECTED.
 "
         ),
         _ => selection_help!(
             "\
-PCRs that EXPECTED must have, 10 among them, such as
+PCRs that EXPECTED must have, including PCR 10, such as
 sha256:0-10 or sha256:0-7,10+sha1:10.
 "
         ),
@@ -297,11 +302,10 @@ sha256:0-10 or sha256:0-7,10+sha1:10.
 // The help of --known.
 fn help_of_known<'a>(command: &str) -> &'a str {
     match command {
-        "attest" => "New entries must match a FILE of sha256sum; several times",
+        "attest" => "sha256sum file that new entries must match; several times",
         _ => "\
-Every new entry must match a digest listed in FILE, as
-sha256sum prints it. May be given several times; only
-with --require",
+sha256sum file that new entries must match; several
+times, only with --require",
     }
 }
 
@@ -312,9 +316,19 @@ fn help_of_explain<'a>(command: &str) -> &'a str {
 Print what each event's data says, and which part of it
 was measured; not with --data or --json",
         "replay" => "\
-After a difference, say what to do next, terminal or not.
+After a difference, say what to do, even off a terminal.
 Only with EXPECTED",
-        _ => "After a difference, say what to do next, terminal or not",
+        _ => "After a difference, say what to do, even off a terminal",
+    }
+}
+
+// The help of --summary.
+fn help_of_summary<'a>(command: &str) -> &'a str {
+    match command {
+        "replay" => "\
+Print one line: verdict, first reason and counts. Only with
+EXPECTED",
+        _ => "Print one line: verdict, first reason and counts",
     }
 }
 
@@ -325,8 +339,8 @@ fn help_of_json<'a>(command: &str) -> &'a str {
 Print JSON, one object per line for each entry, or one
 for all PCRs; not with --print binary",
         "events" => "\
-Print JSON, one object per line: each event, its data,
-and what they say",
+Print JSON, one object per line: each event with its
+data, and what the data says",
         "boot" | "show" => "Print JSON, one object per line",
         _ => "Print JSON, one object on one line",
     }
@@ -339,30 +353,28 @@ fn help_of_verdict<'a>(command: &str, id: &str) -> &'a str {
         ("attest", "prefix") => "Judge the shortest prefix of LIST that QUOTE confirms",
         (_, "prefix") => "Judge the shortest prefix of LIST that matches",
         (_, "save") => "If the verdict is `match`, write a checkpoint to FILE",
-        ("attest", _) => "LIST follows your own checkpoint of this boot in FILE",
-        _ => "\
-Continue from your own checkpoint in FILE: LIST has
-only the bytes after it",
+        ("attest", _) => "LIST continues your own checkpoint of this boot in FILE",
+        _ => "LIST continues your own checkpoint in FILE",
     }
 }
 
 // The help of the arguments of `measure`.
 fn help_of_measure<'a>(id: &str) -> &'a str {
     match id {
-        "alg" => "Hash of the files' digests\n",
+        "alg" => "Hash algorithm for the files' digests\n",
         "template" => "Template of the entries\n",
         "workers" => "\
-How many threads hash files, 1 to 8. Only one keeps the
-order of FILE, so that each run prints the same list
+Number of threads that hash files, 1 to 8. Only 1 keeps
+the order of FILE, so that each run prints the same list
 ",
         "limit" => "\
-At most this many records, 1 to 4294967295: one for
-each FILE, and one for the boot aggregate
+Maximum number of records, 1 to 4294967295: one for each
+FILE, and one for the boot aggregate
 ",
-        "print" => "The list as text or as IMA's binary, or the PCRs\n",
-        "files-from" => "File with names of more files to measure, one per line",
-        "null" => "Names in NAMES end with NUL, as of `find -print0`",
-        _ => "Files to measure, which keep the names given here",
+        "print" => "Print the list as text or as IMA's binary, or the PCRs\n",
+        "files-from" => "File that names more files to measure, one per line",
+        "null" => "Names in NAMES end with NUL, as from `find -print0`",
+        _ => "Files to measure, named in the list as given here",
     }
 }
 
@@ -370,13 +382,11 @@ each FILE, and one for the boot aggregate
 fn help_of_events<'a>(id: &str) -> &'a str {
     match id {
         "data" => "Print each event's data in hexadecimal",
-        "expected" => "\
-Expected PCRs. What the log says is confirmed where a
-PCR has its expected value",
+        "expected" => "Expected PCRs; those that match confirm what LOG says",
         "quote" => "\
-Message that the TPM signed, in place of EXPECTED. Only
-with --list, --nonce and --require",
-        "list" => "Measurement list, binary, that was quoted with LOG",
+Message that the TPM signed, instead of EXPECTED; needs
+--list, --nonce and --require",
+        "list" => "Binary measurement list that was quoted with LOG",
         _ => "Firmware event log of an earlier boot, to compare with",
     }
 }
@@ -388,16 +398,16 @@ fn help_of_other<'a>(id: &str) -> &'a str {
             "\
 Only these PCRs, such as 0-10 or sha256:0-7,10+sha1:10.
 ",
-            ",\nor every bank's at the start"
+            ";\na first item without BANK means every bank"
         ),
         "PCRREAD" => "\
-What tpm2_pcrread or tpm2_checkquote printed, which does
-not show that a quote is valid, or - for standard input",
-        "endorsement" => "Take an endorsement key, which signs nothing",
-        "print" => "Name, type, scheme and PEM; or only one of name and PEM\n",
+Output of tpm2_pcrread or tpm2_checkquote, or - for
+standard input; it does not show that a quote is valid",
+        "endorsement" => "Require an endorsement key, not an attestation key",
+        "print" => "All (name, type, scheme, PEM), or only the name or PEM\n",
         _ => "\
-Public area, as `tpm2_createak -u` writes it, or without
-its size, or - for standard input",
+Public area, as `tpm2_createak -u` writes it or without
+its size field, or - for standard input",
     }
 }
 
@@ -405,8 +415,8 @@ its size, or - for standard input",
 fn help_of_old_kernel<'a>(command: &str) -> &'a str {
     match command {
         "verify" => "\
-Boot aggregate over PCRs 0 to 7, as before Linux 5.8;
+Accept a boot aggregate over PCRs 0 to 7 (Linux < 5.8);
 only with --require",
-        _ => "Boot aggregate over PCRs 0 to 7, as before Linux 5.8",
+        _ => "Accept a boot aggregate over PCRs 0 to 7 (Linux < 5.8)",
     }
 }

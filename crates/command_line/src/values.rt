@@ -2,13 +2,13 @@
 
 ghost use Rattle.std.specs.Prelude.{◌≡◌, ◌<◌, ◌≤◌, ◌^◌, [], false, true, Some, codes, map, string_bytes, unwrap_or, vec_len, IfOk};
 ghost use Rattle.clap.specs.Words.{all_of, first_of, found_of, rows_of};
-ghost use Rattle.agent_plans.specs.Plans.{HasForm, IsWithin, IsWithinLimits, TakesKnown};
-ghost use Rattle.command_line.specs.Arguments.{AreFurtherNames, AreGivenAs, HasAttestOptions, HasBytes, HasLog, HasMeasure, HasNoQuoting, HasNumber, HasQuery, HasQuoting, HasValues, IsConfirmedBy, IsDataShown, IsFlag, IsGivenAs, IsSignedAs, TakesOld, conversion_name, is_dash, part_name, print_name, reads_earlier, reads_twice};
+ghost use Rattle.agent_plans.specs.Plans.{HasForm, HasLook, IsWithin, IsWithinLimits, TakesKnown};
+ghost use Rattle.command_line.specs.Arguments.{AreFurtherNames, AreGivenAs, HasAttestOptions, HasBytes, HasLog, HasMeasure, HasNoQuoting, HasNumber, HasQuery, HasQuoting, HasValues, IsConfirmedBy, IsDataShown, IsFlag, IsGivenAs, IsLook, IsSignedAs, TakesLook, TakesOld, conversion_name, is_dash, part_name, print_name, reads_earlier, reads_twice};
 
 use crate::command_table::{MOST_RECORDS, MOST_WORKERS};
 use agent_plans::{
     ArgumentsFault, AttestOptions, ComparisonKind, ConfirmedBy, Conversion, DataShown, Form,
-    LogFile, Measurement, NameEnd, Names, Print, Query, Quoting, Scope, SigningOptions, Task,
+    LogFile, Look, Measurement, NameEnd, Names, Print, Query, Quoting, Scope, SigningOptions, Task,
 };
 use clap::ArgMatches;
 use hex::FromHexError;
@@ -41,7 +41,7 @@ pub(crate) fn measurement_of(
 }
 
 /// What `events` shows in this form. Refuses `--explain` with JSON, `--expected` and `--quote` where what data says is not shown, and standard
-/// input for both log and expected registers.
+/// input for both log and expected PCRs.
 pub(crate) fn events_of(
     alloc: Global,
     matches: &ArgMatches,
@@ -68,7 +68,7 @@ pub(crate) fn events_of(
     }
 }
 
-/// What `boot` asks. Refuses standard input for both log and expected registers, and for the log of an earlier boot.
+/// What `boot` asks. Refuses standard input for both log and expected PCRs, and for the log of an earlier boot.
 pub(crate) fn boot_of(alloc: Global, matches: &ArgMatches) -> Result<Task, ArgumentsFault>
     ensures values { IfOk result (HasValues (codes "boot") (rows_of (found_of matches.now))) }
     ensures within { (form : Form) → IfOk result (IsWithin form) }
@@ -86,7 +86,7 @@ pub(crate) fn boot_of(alloc: Global, matches: &ArgMatches) -> Result<Task, Argum
     })
 }
 
-// Whether log and expected registers are both standard input.
+// Whether log and expected PCRs are both standard input.
 fn reads_twice(log: &LogFile, confirmed_by: &ConfirmedBy) -> bool
     ensures { result ≡ reads_twice log.now confirmed_by.now }
 {
@@ -132,7 +132,7 @@ pub(crate) fn conversion_of(
     }
 }
 
-// What tells which data is confirmed. Refuses `--quote` beside `--expected`, and what is of a quote without one.
+// What says which data is confirmed. Refuses `--quote` beside `--expected`, and a quote's options without `--quote`.
 fn confirmed_by_of(alloc: Global, matches: &ArgMatches) -> Result<ConfirmedBy, ArgumentsFault>
     ensures { IfOk result (IsConfirmedBy (rows_of (found_of matches.now))) }
 {
@@ -171,7 +171,7 @@ fn quoting_of(
     })
 }
 
-// What tells that the message is signed. Refuses a key or a signature alone, and either with the caller's word.
+// What says that the message is signed. Refuses a key or a signature without the other, and either with `--signature-checked`.
 fn signing_of(alloc: Global, matches: &ArgMatches) -> Result<SigningOptions, ArgumentsFault>
     ensures { IfOk result (IsSignedAs (rows_of (found_of matches.now))) }
 {
@@ -186,7 +186,7 @@ fn signing_of(alloc: Global, matches: &ArgMatches) -> Result<SigningOptions, Arg
     }
 }
 
-// Refuses what is of a quote.
+// Refuses the options of a quote.
 fn has_no_quoting(alloc: Global, matches: &ArgMatches) -> Result<(), ArgumentsFault>
     ensures { IfOk result (λ _. HasNoQuoting (rows_of (found_of matches.now))) }
 {
@@ -201,7 +201,7 @@ fn has_no_quoting(alloc: Global, matches: &ArgMatches) -> Result<(), ArgumentsFa
     }
 }
 
-// Refuses the flags that are of a quote, beside that which tells of its signature.
+// Refuses the flags of a quote, except `--signature-checked`.
 fn has_no_quoting_flags(matches: &ArgMatches) -> Result<(), ArgumentsFault>
     ensures sha1 { IfOk result (λ _. IsFlag (codes "sha1") (rows_of (found_of matches.now)) false true false) }
     ensures old_kernel { IfOk result (λ _. IsFlag (codes "old-kernel") (rows_of (found_of matches.now)) false true false) }
@@ -232,8 +232,10 @@ fn data_of(matches: &ArgMatches) -> Result<DataShown, ArgumentsFault>
 pub(crate) fn attest_of(
     alloc: Global,
     matches: &ArgMatches,
+    form: Form,
 ) -> Result<AttestOptions, ArgumentsFault>
-    ensures { IfOk result (HasAttestOptions (rows_of (found_of matches.now))) }
+    ensures values { IfOk result (HasAttestOptions (rows_of (found_of matches.now))) }
+    ensures look { IfOk result (λ attest. HasLook form attest.look) }
 {
     let quote = name_of(alloc, matches, "QUOTE")?;
     Ok(AttestOptions {
@@ -245,7 +247,38 @@ pub(crate) fn attest_of(
         resume: text_if_given(alloc, matches, "resume")?,
         save: text_if_given(alloc, matches, "save")?,
         explained: flag_of(matches, "explain", false, true)?,
+        look: look_of(matches, form)?,
     })
+}
+
+/// How a comparison of this kind is shown in this form: positions only as they are.
+pub(crate) fn look_for(
+    matches: &ArgMatches,
+    kind: &ComparisonKind,
+    form: Form,
+) -> Result<Look, ArgumentsFault>
+    ensures flags { IfOk result (TakesLook (rows_of (found_of matches.now)) kind.now) }
+    ensures form { IfOk result (HasLook form) }
+{
+    match kind {
+        ComparisonKind::Positions { .. } => Ok(Look::Plain),
+        ComparisonKind::Verdict { .. } | ComparisonKind::ListVerdict => look_of(matches, form),
+    }
+}
+
+/// How a verdict is shown in this form. Refuses `--terminal` with `--summary`, and either with JSON.
+pub(crate) fn look_of(matches: &ArgMatches, form: Form) -> Result<Look, ArgumentsFault>
+    ensures flags { IfOk result (IsLook (rows_of (found_of matches.now))) }
+    ensures form { IfOk result (HasLook form) }
+{
+    let is_terminal = flag_of(matches, "terminal", false, true)?;
+    let is_summary = flag_of(matches, "summary", false, true)?;
+    match (is_terminal, is_summary, form) {
+        (false, false, _) => Ok(Look::Plain),
+        (true, false, Form::Text) => Ok(Look::Terminal),
+        (false, true, Form::Text) => Ok(Look::Summary),
+        _ => Err(ArgumentsFault::Usage),
+    }
 }
 
 /// What `key` asks.
@@ -334,7 +367,7 @@ fn files_of(alloc: Global, matches: &ArgMatches) -> Result<Vec<String>, Argument
     Ok(names)
 }
 
-/// The names of the texts of known files, if there are some. Refuses them unless this is a verdict, and registers are required.
+/// The names of the texts of known files, if there are some. Refuses them unless this is a verdict, and PCRs are required.
 pub(crate) fn known_of(
     alloc: Global,
     matches: &ArgMatches,
@@ -423,7 +456,7 @@ fn text_of<'a>(matches: &ArgMatches<'a>, id: &str) -> Result<&'a str, ArgumentsF
     matches.get_str(id).ok_or(ArgumentsFault::Usage)
 }
 
-/// The log that is named, and whether the H-CRTM's event tells where the machine started.
+/// The log that is named, and whether the H-CRTM's event says where the machine started.
 pub(crate) fn log_of(alloc: Global, matches: &ArgMatches) -> Result<LogFile, ArgumentsFault>
     ensures { IfOk result (HasLog (rows_of (found_of matches.now))) }
 {

@@ -1,5 +1,4 @@
-//! Errors in words, from one table: for the kind and the number of an error, what is wrong and what to do. Their meaning in words is nowhere else;
-//! `docs/errors.txt` and the manual have the rows of this table.
+//! Errors in words, from one table: for the kind and the number of an error, what is wrong and what to do. `docs/errors.txt` has the same rows.
 #![tactic(auto)]
 
 mod keys;

@@ -68,7 +68,7 @@ fn argument_sentence() -> Option<Sentence>
 {
     row(
         "An argument is wrong",
-        "Write PCRs as in sha256:0-10. Require at least PCR 10; with a quote PCRs 0 to 10, and not in the SHA-1 bank alone. A nonce has 16 bytes or more. Known files need required PCRs.",
+        "Write PCRs as in sha256:0-10. Require at least PCR 10; with a quote, require PCRs 0 to 10, and not only in the SHA-1 bank. A nonce has at least 16 bytes. Known files need required PCRs.",
     )
 }
 

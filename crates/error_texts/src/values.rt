@@ -14,23 +14,23 @@ pub(crate) fn expected_sentence(number: u32) -> Option<Sentence>
     match number {
         1 => row(
             "it does not state a PCR and its value",
-            "Write a bank, a PCR and its value in hexadecimal, without 0x. If tpm2-tools printed the text, convert it first, unchanged.",
+            "Write a bank, a PCR and its value in hexadecimal, without 0x. If this is tpm2-tools output, convert it unchanged with ima-agent expected.",
         ),
         2 => row(
             "it repeats a PCR of its bank",
             "State each PCR of a bank once.",
         ),
         4 => row(
-            "they are what tpm2_quote printed, which nobody has verified",
-            "Verify the quote itself, or give what tpm2_pcrread printed.",
+            "this is tpm2_quote output, which nobody has verified",
+            "Verify the quote itself, or give the output of tpm2_pcrread.",
         ),
         5 => row(
-            "the line of the signature is missing",
-            "Give the whole text that tpm2_checkquote printed.",
+            "the signature line is missing",
+            "Give the whole output of tpm2_checkquote.",
         ),
         6 => row(
-            "no PCR is stated, or none of those that are wanted",
-            "Read these PCRs again: the tool failed, or read others.",
+            "no PCR is stated, or none of the wanted ones",
+            "Read the wanted PCRs again: the tool failed or read others.",
         ),
         _ => None,
     }
@@ -43,11 +43,11 @@ pub(crate) fn known_sentence(number: u32) -> Option<Sentence>
     match number {
         1 => row(
             "it is a SHA-1 digest, which can be forged",
-            "Give digests by SHA-256, SHA-384 or SHA-512.",
+            "Give SHA-256, SHA-384 or SHA-512 digests.",
         ),
         2 => row(
             "it is not a digest and a name, as sha256sum prints them",
-            "Give what sha256sum, sha384sum or sha512sum printed, unchanged.",
+            "Give the output of sha256sum, sha384sum or sha512sum, unchanged.",
         ),
         _ => None,
     }
@@ -58,14 +58,14 @@ pub(crate) fn checkpoint_sentence(number: u32) -> Option<Sentence>
     ensures { option_map said result ≡ checkpoint_sentence number }
 {
     match number {
-        1 => row("The checkpoint is not whole, or was changed", START_AGAIN),
-        2 => row("The checkpoint is of another version", START_AGAIN),
+        1 => row("The checkpoint is incomplete or was changed", START_AGAIN),
+        2 => row("The checkpoint's version is not supported", START_AGAIN),
         3 => row(
-            "The checkpoint is of another boot: it began from PCRs that the log does not make",
+            "The checkpoint is from another boot: it starts from PCR values that the log does not produce",
             START_AGAIN,
         ),
         4 => row(
-            "The quote is of another boot than the checkpoint, or the checkpoint is of no quote",
+            "The quote and the checkpoint are from different boots, or the checkpoint was saved without a quote",
             START_AGAIN,
         ),
         _ => None,

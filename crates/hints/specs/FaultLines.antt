@@ -67,9 +67,9 @@ Explains failure text = ⊤
 
 -- What to do about an error that the table does not have. Why an input cannot be read is said instead.
 abbrev pub other_advice : FaultKind → List ℕ
-other_advice kinds.NotHex = escape (codes "Give the log in hexadecimal, as xxd -p prints it, or its file to ima-agent registers.") ++ 10 ∷ []
+other_advice kinds.NotHex = escape (codes "Give the log in hexadecimal as xxd -p prints it, or give its file to ima-agent registers.") ++ 10 ∷ []
 other_advice kinds.TooLong = escape (codes "No input may be longer: check that this is the right one.") ++ 10 ∷ []
-other_advice kinds.Write = escape (codes "Name a FILE in a folder that exists and in which you may write, on a disk with room.") ++ 10 ∷ []
+other_advice kinds.Write = escape (codes "Name a FILE in an existing, writable folder on a disk with free space.") ++ 10 ∷ []
 other_advice kinds.NotUtf8 = escape (codes "Rename the files whose names are not UTF-8, or leave them out.") ++ 10 ∷ []
 other_advice kind = []
 

@@ -97,35 +97,35 @@ hints_of_causes causes grown is_old =
 
 -- The words with which a line ends, after its numbers.
 abbrev pub last_words : Hint → List ℕ
-last_words (GrownTo confirmed entries) = codes " entries: the list grew after it was read; collect again, or add --prefix to judge those "
-last_words NoEntries = codes "LIST is empty: copy the kernel's list with cat, since its size is given as 0"
-last_words OtherAggregate = codes "the boot aggregate is another: log and list are of different boots, or one of them was changed"
-last_words OldAggregate = codes "the boot aggregate is that of PCRs 0 to 7 alone, as some kernels before 5.8 record it: it does not bind PCRs 8 and 9 to the list; --old-kernel takes it beside --require"
-last_words NoAggregateBank = codes "LOG has no bank for the boot aggregate, so nothing says that log and list are of one boot"
+last_words (GrownTo confirmed entries) = codes " entries: the list grew after PCR 10 was read; collect again, or add --prefix to judge only the first "
+last_words NoEntries = codes "LIST is empty: copy the kernel's list with cat, since the kernel reports its size as 0"
+last_words OtherAggregate = codes "the boot aggregate does not match LOG: log and list are from different boots, or one of them was changed"
+last_words OldAggregate = codes "the boot aggregate covers only PCRs 0 to 7, as some kernels before 5.8 record it: it does not bind PCRs 8 and 9 to the list; with --require, --old-kernel accepts it"
+last_words NoAggregateBank = codes "LOG has no bank for the boot aggregate, so nothing shows that log and list are from the same boot"
 last_words NoAggregate =
-    codes "entry 0 is no boot aggregate: the list lacks its beginning, has another template, or was changed; with --require the boot aggregate is also taken from ima-ngv2, ima-sigv2, ima-modsig"
-last_words (ListDiffers Sha1) = codes " PCR 10 differs: it was read at another time than LIST, or an entry is missing or was changed"
+    codes "entry 0 is not a boot aggregate: the list lacks its beginning, has another template, or was changed; with --require, the boot aggregate may also have the template ima-ngv2, ima-sigv2 or ima-modsig"
+last_words (ListDiffers Sha1) = codes " PCR 10 differs: it was read at a different time than LIST, or an entry is missing or was changed"
 last_words (ListDiffers alg) =
-    codes " PCR 10 differs: it was read at another time than LIST, a kernel before 5.8 extended it by SHA-1 digests with zeros after them, or an entry is missing or was changed"
+    codes " PCR 10 differs: it was read at a different time than LIST, a kernel before 5.8 extended it with zero-padded SHA-1 digests, or an entry is missing or was changed"
 last_words NotExpected = codes "add EXPECTED, the values read with the quote: its rows show which PCR differs"
 last_words NotQuoted = codes "EXPECTED is not what the TPM signed: give the values read with the quote"
 last_words (EventOfList event) = codes " extends PCR 10, which only the list should: log and list cannot be told apart"
 last_words (EntryOfLog entry register) = codes ", which only the log should: log and list cannot be told apart"
 last_words (EntryAside entry register) =
-    codes ", as a rule with pcr= in the policy has it; replay takes a list whose entries extend PCR 10 alone"
+    codes ", as a policy rule with pcr= requests; replay accepts only lists whose entries all extend PCR 10"
 last_words (LogDiffers alg register) =
-    codes " differs: LOG is of another boot, or was changed; ima-agent events --explain --expected shows its events"
+    codes " differs: LOG is from another boot or was changed; ima-agent events --explain --expected shows its events"
 last_words (LogNowhere alg register) =
-    codes " never has its value: LOG is of another boot, or was changed; ima-agent events --explain --expected shows its events"
+    codes " never has the expected value: LOG is from another boot or was changed; ima-agent events --explain --expected shows its events"
 last_words (WithoutLog alg register) = codes " differs: replay reads no log; ima-agent verify does"
-last_words ByHcrtm = codes "LOG has an H-CRTM event, which tells that PCR 0 began at 4: add --hcrtm, with which less differs"
+last_words ByHcrtm = codes "LOG has an H-CRTM event, which means that PCR 0 started at 4: add --hcrtm, with which less differs"
 last_words (Missing alg register) = codes ": read it with the others"
 last_words NothingExpected = codes "EXPECTED has no PCR, so no PCR was compared: give the values read with LIST"
 last_words (OnlySha1 register) =
-    codes " is required in the SHA-1 bank alone: whoever can make collisions can make another log or list with its value; require another bank, too, if there is one"
+    codes " is required only in the SHA-1 bank: anyone who can make collisions can make another log or list with its value; require another bank too, if there is one"
 last_words (Unknown entry) =
-    codes " is the first that no known file has: ima-agent show names its file; compare that with the file in its package"
-last_words (Absent alg) = codes " is no bank of LOG, so its PCRs cannot be judged: LOG is of another machine, or was changed"
+    codes " is the first that matches no known digest: ima-agent show names its file; compare that with the file in its package"
+last_words (Absent alg) = codes " is not a bank of LOG, so its PCRs cannot be judged: LOG is from another machine or was changed"
 
 -- The words before them: what the hint is of.
 abbrev pub of_register : Alg → ℕ → List ℕ → List ℕ
@@ -157,15 +157,15 @@ shown_hint hint = escape (hint_line hint) ++ 10 ∷ []
 -- ---- what an input is
 
 abbrev pub mistake_words : Mistake → List ℕ
-mistake_words mistakes.Empty = codes "it is empty: copy the kernel's files with cat, since their size is given as 0"
+mistake_words mistakes.Empty = codes "it is empty: copy the kernel's files with cat, since the kernel reports their size as 0"
 mistake_words mistakes.NothingPrinted = codes "it is empty: the tool printed nothing"
-mistake_words mistakes.ListForLog = codes "it is a measurement list, and no firmware event log"
+mistake_words mistakes.ListForLog = codes "it is a measurement list, not a firmware event log"
 mistake_words mistakes.OldLog =
-    codes "it is in the SHA-1 form of TPM 1.2: ima-agent log makes LOG of it, of the SHA-1 bank alone, which stops nobody who can make collisions"
-mistake_words mistakes.LogForList = codes "it is a firmware event log, and no measurement list"
-mistake_words mistakes.TextForList = codes "it is the list as text: take binary_runtime_measurements, which is beside it; or ima-agent list makes LIST of it"
-mistake_words mistakes.ListForText = codes "it is the binary list, which the other commands take as it is"
-mistake_words mistakes.PrintedForExpected = codes "it is what tpm2-tools print: ima-agent expected makes EXPECTED of it"
-mistake_words mistakes.ExpectedForPrinted = codes "it is EXPECTED already, which ima-agent verify takes as it is"
-mistake_words mistakes.Capitals = codes "its banks are in capital letters: write sha256 and the like"
-mistake_words mistakes.PemForArea = codes "it is PEM text: give the public area, as tpm2_createak -u writes it"
+    codes "it is in the SHA-1 form of TPM 1.2: ima-agent log converts it to a LOG with only the SHA-1 bank, which stops nobody who can make collisions"
+mistake_words mistakes.LogForList = codes "it is a firmware event log, not a measurement list"
+mistake_words mistakes.TextForList = codes "it is the list as text: give binary_runtime_measurements, which is beside it, or convert the text with ima-agent list"
+mistake_words mistakes.ListForText = codes "it is the binary list, which needs no conversion: give it to the other commands"
+mistake_words mistakes.PrintedForExpected = codes "it is tpm2-tools output: convert it to EXPECTED with ima-agent expected"
+mistake_words mistakes.ExpectedForPrinted = codes "it is EXPECTED already: give it to ima-agent verify as it is"
+mistake_words mistakes.Capitals = codes "its banks are in capital letters: write sha256, not SHA256"
+mistake_words mistakes.PemForArea = codes "it is PEM text: give the public area as tpm2_createak -u writes it"

@@ -63,7 +63,7 @@ converted_of task = None
 abbrev pub list_of : Task → Option (List ℕ)
 list_of (tasks.Answer (queries.Comparison judge)) = Some (string_bytes judge.list)
 list_of (tasks.Answer (queries.ListRegisters list)) = Some (string_bytes list)
-list_of (tasks.Entries list) = Some (string_bytes list)
+list_of (tasks.Entries list partial) = Some (string_bytes list)
 list_of task = option_map (λ quoting. string_bytes quoting.list) (quoting_of task)
 
 abbrev pub expected_in : ConfirmedBy → Option (List ℕ)

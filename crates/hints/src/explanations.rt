@@ -25,11 +25,11 @@ use std::{fs, io};
 const TOO_MANY_FILES: &str = "error: 2^32 files or more";
 
 /// What is wrong with an argument that the program cannot take.
-const NOT_UTF8: &str = "an argument is not UTF-8: rename the file, or name it by a link";
+const NOT_UTF8: &str = "an argument is not UTF-8: rename the file, or give a link to it";
 
 /// What is wrong if the output's device fails.
 const NOT_WRITTEN: &str =
-    "the output could not be written: its disk is full, or whoever should read it has ended";
+    "the output could not be written: the disk is full, or the program that reads it has exited";
 
 /// Why the run failed, in lines for a person: the input that is at fault, and what is wrong with it, in the words of the table of errors; for wrong
 /// arguments what `clap` says of them. Of an input that could not be read it asks once more, to learn the system's reason. An answer explains itself.
@@ -77,7 +77,7 @@ fn of_fault<R: FileSystem + io::Input>(
         RunFault::Read(name) if is_refused(rt, name, task) => {
             shown_line(
                 alloc,
-                &format!(in alloc; "cannot read {name}: it is no regular file: copy it to one")?,
+                &format!(in alloc; "cannot read {name}: it is not a regular file: copy it to one")?,
             )
         }
         RunFault::Read(name) => of_reason(alloc, name, open_reason(rt, name)),
@@ -182,14 +182,14 @@ fn of_policy(alloc: Global, quoting: &Quoting) -> Result<String, AllocError> {
         Some(PolicyFault::ShortNonce) => {
             let nonce = hex::encode(alloc, &quoting.nonce)?;
             format!(in alloc;
-                "error: invalid value '{nonce}' for '--nonce <HEX>': a nonce has 16 bytes or more, which are 32 hexadecimal digits"
+                "error: invalid value '{nonce}' for '--nonce <HEX>': a nonce has at least 16 bytes, which is 32 hexadecimal digits"
             )
         }
         Some(PolicyFault::NotRequired { register }) => format!(in alloc;
-            "error: invalid value '{text}' for '{REQUIRE}': PCR {register} is in no bank: a quote needs PCRs 0 to 10, as in sha256:0-10"
+            "error: invalid value '{text}' for '{REQUIRE}': PCR {register} is not selected in any bank: a quote needs PCRs 0 to 10, as in sha256:0-10"
         ),
         Some(PolicyFault::OnlySha1 { register }) => format!(in alloc;
-            "error: invalid value '{text}' for '{REQUIRE}': PCR {register} is in the SHA-1 bank alone, which collisions can forge: require another bank, or add --sha1"
+            "error: invalid value '{text}' for '{REQUIRE}': PCR {register} is selected only in the SHA-1 bank, which can be forged: require another bank, or add --sha1"
         ),
     }
 }

@@ -13,12 +13,11 @@ use itoa::Buffer;
 use std::alloc::{AllocError, Global};
 
 const NOT_HEX: &str =
-    "Give the log in hexadecimal, as xxd -p prints it, or its file to ima-agent registers.";
+    "Give the log in hexadecimal as xxd -p prints it, or give its file to ima-agent registers.";
 
 const TOO_LONG: &str = "No input may be longer: check that this is the right one.";
 
-const NOT_WRITABLE: &str =
-    "Name a FILE in a folder that exists and in which you may write, on a disk with room.";
+const NOT_WRITABLE: &str = "Name a FILE in an existing, writable folder on a disk with free space.";
 
 const NAMES_NOT_UTF8: &str = "Rename the files whose names are not UTF-8, or leave them out.";
 

@@ -318,28 +318,28 @@ fn last_words(hint: Hint) -> &'static str
 }
 
 const GROWN: &str =
-    " entries: the list grew after it was read; collect again, or add --prefix to judge those ";
+    " entries: the list grew after PCR 10 was read; collect again, or add --prefix to judge only the first ";
 
 const NO_ENTRIES: &str =
-    "LIST is empty: copy the kernel's list with cat, since its size is given as 0";
+    "LIST is empty: copy the kernel's list with cat, since the kernel reports its size as 0";
 
 const OTHER_AGGREGATE: &str =
-    "the boot aggregate is another: log and list are of different boots, or one of them was changed";
+    "the boot aggregate does not match LOG: log and list are from different boots, or one of them was changed";
 
 const OLD_AGGREGATE: &str =
-    "the boot aggregate is that of PCRs 0 to 7 alone, as some kernels before 5.8 record it: it does not bind PCRs 8 and 9 to the list; --old-kernel takes it beside --require";
+    "the boot aggregate covers only PCRs 0 to 7, as some kernels before 5.8 record it: it does not bind PCRs 8 and 9 to the list; with --require, --old-kernel accepts it";
 
 const NO_AGGREGATE_BANK: &str =
-    "LOG has no bank for the boot aggregate, so nothing says that log and list are of one boot";
+    "LOG has no bank for the boot aggregate, so nothing shows that log and list are from the same boot";
 
 const NO_AGGREGATE: &str =
-    "entry 0 is no boot aggregate: the list lacks its beginning, has another template, or was changed; with --require the boot aggregate is also taken from ima-ngv2, ima-sigv2, ima-modsig";
+    "entry 0 is not a boot aggregate: the list lacks its beginning, has another template, or was changed; with --require, the boot aggregate may also have the template ima-ngv2, ima-sigv2 or ima-modsig";
 
 const LIST_DIFFERS: &str =
-    " PCR 10 differs: it was read at another time than LIST, or an entry is missing or was changed";
+    " PCR 10 differs: it was read at a different time than LIST, or an entry is missing or was changed";
 
 const LIST_DIFFERS_OR_PADDED: &str =
-    " PCR 10 differs: it was read at another time than LIST, a kernel before 5.8 extended it by SHA-1 digests with zeros after them, or an entry is missing or was changed";
+    " PCR 10 differs: it was read at a different time than LIST, a kernel before 5.8 extended it with zero-padded SHA-1 digests, or an entry is missing or was changed";
 
 const NOT_EXPECTED: &str =
     "add EXPECTED, the values read with the quote: its rows show which PCR differs";
@@ -352,30 +352,30 @@ const EVENT_OF_LIST: &str =
 const ENTRY_OF_LOG: &str = ", which only the log should: log and list cannot be told apart";
 
 const ENTRY_ASIDE: &str =
-    ", as a rule with pcr= in the policy has it; replay takes a list whose entries extend PCR 10 alone";
+    ", as a policy rule with pcr= requests; replay accepts only lists whose entries all extend PCR 10";
 
 const NOTHING_EXPECTED: &str =
     "EXPECTED has no PCR, so no PCR was compared: give the values read with LIST";
 
 const UNKNOWN: &str =
-    " is the first that no known file has: ima-agent show names its file; compare that with the file in its package";
+    " is the first that matches no known digest: ima-agent show names its file; compare that with the file in its package";
 
 const LOG_DIFFERS: &str =
-    " differs: LOG is of another boot, or was changed; ima-agent events --explain --expected shows its events";
+    " differs: LOG is from another boot or was changed; ima-agent events --explain --expected shows its events";
 
 const LOG_NOWHERE: &str =
-    " never has its value: LOG is of another boot, or was changed; ima-agent events --explain --expected shows its events";
+    " never has the expected value: LOG is from another boot or was changed; ima-agent events --explain --expected shows its events";
 
 const WITHOUT_LOG: &str = " differs: replay reads no log; ima-agent verify does";
 
 const BY_HCRTM: &str =
-    "LOG has an H-CRTM event, which tells that PCR 0 began at 4: add --hcrtm, with which less differs";
+    "LOG has an H-CRTM event, which means that PCR 0 started at 4: add --hcrtm, with which less differs";
 
 const ONLY_SHA1: &str =
-    " is required in the SHA-1 bank alone: whoever can make collisions can make another log or list with its value; require another bank, too, if there is one";
+    " is required only in the SHA-1 bank: anyone who can make collisions can make another log or list with its value; require another bank too, if there is one";
 
 const ABSENT: &str =
-    " is no bank of LOG, so its PCRs cannot be judged: LOG is of another machine, or was changed";
+    " is not a bank of LOG, so its PCRs cannot be judged: LOG is from another machine or was changed";
 
 // Which entries of a list a register covers, and the number of those once more after the words.
 fn grown_line(
@@ -498,21 +498,21 @@ fn mistake_words(mistake: Mistake) -> &'static str
 {
     match mistake {
         Mistake::Empty =>
-            "it is empty: copy the kernel's files with cat, since their size is given as 0",
+            "it is empty: copy the kernel's files with cat, since the kernel reports their size as 0",
         Mistake::NothingPrinted => "it is empty: the tool printed nothing",
-        Mistake::ListForLog => "it is a measurement list, and no firmware event log",
+        Mistake::ListForLog => "it is a measurement list, not a firmware event log",
         Mistake::OldLog =>
-            "it is in the SHA-1 form of TPM 1.2: ima-agent log makes LOG of it, of the SHA-1 bank alone, which stops nobody who can make collisions",
-        Mistake::LogForList => "it is a firmware event log, and no measurement list",
+            "it is in the SHA-1 form of TPM 1.2: ima-agent log converts it to a LOG with only the SHA-1 bank, which stops nobody who can make collisions",
+        Mistake::LogForList => "it is a firmware event log, not a measurement list",
         Mistake::TextForList =>
-            "it is the list as text: take binary_runtime_measurements, which is beside it; or ima-agent list makes LIST of it",
-        Mistake::ListForText => "it is the binary list, which the other commands take as it is",
+            "it is the list as text: give binary_runtime_measurements, which is beside it, or convert the text with ima-agent list",
+        Mistake::ListForText =>
+            "it is the binary list, which needs no conversion: give it to the other commands",
         Mistake::PrintedForExpected =>
-            "it is what tpm2-tools print: ima-agent expected makes EXPECTED of it",
+            "it is tpm2-tools output: convert it to EXPECTED with ima-agent expected",
         Mistake::ExpectedForPrinted =>
-            "it is EXPECTED already, which ima-agent verify takes as it is",
-        Mistake::Capitals => "its banks are in capital letters: write sha256 and the like",
-        Mistake::PemForArea =>
-            "it is PEM text: give the public area, as tpm2_createak -u writes it",
+            "it is EXPECTED already: give it to ima-agent verify as it is",
+        Mistake::Capitals => "its banks are in capital letters: write sha256, not SHA256",
+        Mistake::PemForArea => "it is PEM text: give the public area as tpm2_createak -u writes it",
     }
 }

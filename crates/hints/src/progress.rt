@@ -14,7 +14,7 @@ use std::time::Instant;
 
 /// What a person is told who has given no arguments.
 const WAITING: &str =
-    "reading a firmware event log in hexadecimal from standard input; ima-agent --help tells the commands\n";
+    "reading a firmware event log in hexadecimal from standard input; ima-agent --help lists the commands\n";
 
 /// Who is at the standard streams.
 #[derive(Clone, Copy)]
@@ -103,7 +103,7 @@ impl<R: Eprint + Clock + FileSystem + io::Input + Sync> Progress for SystemProgr
 
     fn cuts(&self, bytes: usize) {
         if bytes != 0 && self.audience.listener != Listener::Nobody {
-            let _ = eprint!(self.runtime; "padding cut: {bytes} bytes behind the last event\n");
+            let _ = eprint!(self.runtime; "padding cut: {bytes} bytes after the last event\n");
         }
     }
 

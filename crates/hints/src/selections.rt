@@ -17,7 +17,7 @@ const GRAMMAR: &str =
 
 /// What is wrong if PCR 10 is not selected.
 const LACKS_PCR_10: &str =
-    "PCR 10 is selected in no bank, so the list would not be checked: add it, as in sha256:0-10";
+    "PCR 10 is not selected in any bank, so the list would not be checked: add it, as in sha256:0-10";
 
 /// Why this text spells no requirement.
 pub(crate) fn of_requirement(alloc: Global, text: &str) -> Result<String, AllocError> {
@@ -55,7 +55,7 @@ fn of_part(alloc: Global, at: usize, part: &str) -> Result<String, AllocError> {
     if let Some(bank) = unknown_bank(part) {
         let [sha1, sha256, sha384, sha512] = Alg::ALL.map(Alg::name);
         return format!(in alloc;
-            "unknown bank '{bank}': known are {sha1}, {sha256}, {sha384} and {sha512}"
+            "unknown bank '{bank}': use {sha1}, {sha256}, {sha384} or {sha512}"
         );
     }
     let place = at.saturating_add(1);

@@ -14,12 +14,12 @@ use tpm_keys::KeyFault;
 const FIRST_LACK: u32 = 11;
 
 const UNSIGNED: &str =
-    "nobody looked at the signature of QUOTE: give --key and --signature to have it verified";
+    "the signature of QUOTE was not checked: add --key and --signature to verify it";
 
 const NO_AREA: &str =
-    "KEY is not a public area of a kind that is taken: give NAME.pub of ima-enroll, or PEM as ima-agent key --print pem prints it";
+    "KEY is not a supported public area: give NAME.pub from ima-enroll, or PEM as ima-agent key --print pem prints it";
 
-const NO_ATTESTATION_KEY: &str = "KEY is not a key that attests: give NAME.pub of ima-enroll";
+const NO_ATTESTATION_KEY: &str = "KEY is not an attestation key: give NAME.pub from ima-enroll";
 
 /// What to do where nothing was said of the signature.
 pub(crate) fn unsigned_hint(alloc: Global) -> Result<String, AllocError>
@@ -43,14 +43,14 @@ fn refusal_words(refusal: SignatureRefusal) -> &'static str
 {
     match refusal {
         SignatureRefusal::Bytes(_) =>
-            "SIG must be what tpm2_quote -s wrote with QUOTE, plain or not, and KEY of its kind and size",
+            "SIG must be what tpm2_quote -s wrote with QUOTE, plain or not; KEY must be the key that made it",
         SignatureRefusal::OtherScheme | SignatureRefusal::OtherHash =>
-            "SIG is not by a scheme and hash that KEY takes: it is by another key, or was changed",
+            "KEY does not allow the scheme or the hash of SIG: SIG was made by another key or changed",
         SignatureRefusal::NotSigned =>
-            "SIG is by another key or of another quote, or one of QUOTE, SIG and KEY was changed",
+            "SIG is from another key or another quote, or one of QUOTE, SIG and KEY was changed",
         SignatureRefusal::OtherKey =>
-            "signatures by such keys are not verified here: verify SIG yourself, then call ima-agent with --signature-checked in place of both",
-        SignatureRefusal::OtherPem => "give the key's public area: NAME.pub of ima-enroll",
+            "ima-agent cannot verify signatures by such keys: verify SIG yourself, then give --signature-checked instead of --key and --signature",
+        SignatureRefusal::OtherPem => "give the key's public area: NAME.pub from ima-enroll",
     }
 }
 

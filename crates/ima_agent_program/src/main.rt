@@ -3,7 +3,8 @@
 
 use hints::{Audience, SystemProgress};
 use ima_agent::{
-    Listener, SystemFiles, WriteSink, arguments_after_name, asks_quiet, color_choice, exit_code,
+    Listener, SystemFiles, WriteSink, arguments_after_name, as_on_terminal, asks_quiet,
+    color_choice, exit_code,
 };
 use std::io::IsTerminal;
 use std::process::ExitCode;
@@ -11,9 +12,14 @@ use std::rt::Env;
 use std::{env, io};
 use terminal_colors::{ColorChoice, ColorSink, is_colored};
 
-/// The arguments after the program's name. Fails if memory runs out, or if one is not UTF-8.
-fn arguments(rt: &(impl Env + AllocGlobal)) -> io::Result<Vec<String>> {
-    Ok(arguments_after_name(rt.alloc(), env::args(rt)?)?)
+/// The arguments after the program's name, for an output that is a terminal or is none. Fails if memory runs out, or if one is not UTF-8.
+fn arguments(rt: &(impl Env + AllocGlobal), is_terminal: bool) -> io::Result<Vec<String>> {
+    let arguments = arguments_after_name(rt.alloc(), env::args(rt)?)?;
+    if is_terminal {
+        Ok(as_on_terminal(rt.alloc(), arguments)?)
+    } else {
+        Ok(arguments)
+    }
 }
 
 // Whether these arguments ask for silence.
@@ -33,10 +39,11 @@ fn colors_of(arguments: &io::Result<Vec<String>>) -> ColorChoice {
 }
 
 fn main(rt: HostRuntime) -> ExitCode {
-    let arguments = arguments(&rt);
+    let is_terminal = rt.stdout().is_terminal();
+    let arguments = arguments(&rt, is_terminal);
     let colors = is_colored(
         colors_of(&arguments),
-        rt.stdout().is_terminal(),
+        is_terminal,
         &env::var(&rt, "NO_COLOR"),
         &env::var(&rt, "TERM"),
     );

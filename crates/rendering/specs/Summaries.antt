@@ -148,6 +148,7 @@ summary_by success required unknown (answers.Prefix prefix) =
     summary_of_report success required unknown (verdict_of prefix.report) prefix.entries
 summary_by success required unknown (answers.ListReport report) = summary_of_list success required unknown (list_verdict_of report)
 summary_by success required unknown (answers.Attestation report) = summary_of_quote success unknown (attest_verdict_of report)
+summary_by success required unknown (answers.Positions positions) = record no_summary { compared = length positions.items }
 summary_by success required unknown answer = no_summary
 
 abbrev pub summary_of : Answered → Summary

@@ -55,7 +55,7 @@ pub struct Summary {
     pub verdict: Outcome,
     /// Why it is not `match`: the first reason that holds, in the order of [`Reason`].
     pub reason: Option<Reason>,
-    /// How many expected registers were compared; by a quote, how many it selects.
+    /// How many expected registers were compared, or looked for; by a quote, how many it selects.
     pub compared: usize,
     /// How many of these match; by a quote all do, if it is of the values to which log and list replay, or else none.
     pub matching: usize,
@@ -101,10 +101,11 @@ impl Summary {
             Answer::Prefix(prefix) => of_report(given, &prefix.report, prefix.entries),
             Answer::ListReport(report) => of_list(given, report),
             Answer::Attestation(report) => of_quote(given, report),
-            Answer::Positions(_)
-            | Answer::Registers(_)
-            | Answer::Expected(_)
-            | Answer::Key { .. } => NONE,
+            Answer::Positions(positions) => Summary {
+                compared: positions.len(),
+                ..NONE
+            },
+            Answer::Registers(_) | Answer::Expected(_) | Answer::Key { .. } => NONE,
         }
     }
 
