@@ -1,7 +1,7 @@
 -- The commands as clap takes them, and the plan that comes from the arguments.
-use Rattle.std.specs.Prelude.{◌≡◌, Bool, true, false, Option, None, String, List, [], ◌∷◌, codes, Ok, Some, ℕ, ◌⊎◌, ◌||◌, ◌&&◌, ◌==◌, IsTrue, bytes_eq, drop, find, if◌then◌else◌, insert, length, map, nat_le, not, option_map, position_or_len, slice_get, unwrap_or, string_bytes}
+use Rattle.std.specs.Prelude.{◌≡◌, Bool, true, false, Option, None, String, List, [], ◌∷◌, codes, Ok, Some, ℕ, ◌⊎◌, ◌||◌, ◌&&◌, ◌==◌, IsTrue, bytes_eq, drop, find, if◌then◌else◌, insert, length, map, nat_le, not, option_map, slice_get, unwrap_or, string_bytes}
 use Rattle.std.specs.Global.{Global, Vec}
-use Rattle.std.specs.List.{fold, list_any, starts_with}
+use Rattle.std.specs.List.{fold, list_any, position_or_len, starts_with}
 use Rattle.std.specs.Option.{option_map_or}
 use Rattle.clap.specs.Words.{App, Rule, Text, new_app, new_rule, with_rule, with_subcommand, Row, all_of, first_of, subcommand_of}
 use Rattle.clap.specs.Lexer.{usize_max}

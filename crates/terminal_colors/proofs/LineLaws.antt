@@ -1,7 +1,7 @@
 -- The lines of a text, and those of which some are sent.
 use Rattle.std.proofs.Common.{◌≡◌, ℕ, suc, ◌+◌, ◌<◌, ◌==◌, min, List, [], ◌∷◌, ◌++◌, Result, Ok, Err, length, take, drop, refl, sym, ap, ◌∙◌, append_assoc, arith}
-use Rattle.std.specs.Prelude.{flat_map, position_or_len}
-use Rattle.std.specs.List.{onto_first}
+use Rattle.std.specs.Prelude.{flat_map}
+use Rattle.std.specs.List.{onto_first, position_or_len}
 use Rattle.std.specs.Result.{IsErrAnd}
 use Rattle.std.proofs.lemmas.Bool.{cases_Bool}
 use Rattle.byte_streams.specs.Streams.{SinkState, Sends}

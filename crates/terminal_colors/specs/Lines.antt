@@ -1,6 +1,6 @@
 -- Where a line's state is, and a text with the sequences around the states on its lines.
-use Rattle.std.specs.Prelude.{ℕ, ◌+◌, ◌-◌, ◌==◌, Bool, IsTrue, true, false, if◌then◌else◌, List, [], ◌∷◌, ◌++◌, Option, drop, flat_map, length, min, not, option_map, position_or_len, take}
-use Rattle.std.specs.List.{list_all, onto_first}
+use Rattle.std.specs.Prelude.{ℕ, ◌+◌, ◌-◌, ◌==◌, Bool, IsTrue, true, false, if◌then◌else◌, List, [], ◌∷◌, ◌++◌, Option, drop, flat_map, length, min, not, option_map, take}
+use Rattle.std.specs.List.{list_all, onto_first, position_or_len}
 use Rattle.std.specs.Option.{option_map_or, option_or}
 use Rattle.terminal_colors.specs.States.{reset, sequence_of, state_at, style_of, text_of}
 use Rattle.terminal_colors.specs.declared.states.State.{State}

@@ -1,6 +1,6 @@
 //! The words that are coloured, and their colours.
 
-ghost use Rattle.std.specs.Prelude.{◌≡◌, ◌<◌, find, length};
+ghost use Rattle.std.specs.Prelude.{◌≡◌, ◌<◌, ◌==◌, find, length};
 ghost use Rattle.std.specs.List.{starts_with};
 ghost use Rattle.terminal_colors.specs.States.{all_states, sequence_of, state_at, style_of, text_of};
 
