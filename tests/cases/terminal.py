@@ -399,6 +399,7 @@ def hinted_commands():
     yield "another value", ["verify", "firmware.log", "ima.list", "changed.txt"], 1, [changed]
     yield "a value that is missing", ["verify", "--require=sha256:10-10", "firmware.log", "ima.list", "four.txt"], 1, [lacks.format("sha256", 10)]
     yield "nothing expected", ["replay", "ima.list", "empty"], 1, [NO_EXPECTED]
+    yield "nothing to locate", ["locate", "firmware.log", "ima.list", "empty"], 1, [NO_EXPECTED]
     yield "a value of the log", ["replay", "ima.list", "four.txt"], 1, [
         "sha256 PCR 4 differs: replay reads no log; ima-agent verify does"]
     yield "no bank", ["verify", "firmware.log", "ima.list", "sha1.txt"], 1, [
@@ -796,7 +797,7 @@ class Further(harness.TestCase):
             command = Command(title, words, None, pipe_list if "/dev/stdin" in words else None)
             explained = command._replace(words=[words[0], "--explain", *words[1:]])
             plain = left_elsewhere(command, self.room)
-            anyway = f"{NO_EXPECTED}\n".encode() if NO_EXPECTED in hints and words[0] != "locate" else b""
+            anyway = f"{NO_EXPECTED}\n".encode() if NO_EXPECTED in hints else b""
             self.check(f"{title}, elsewhere", (plain.status, plain.said), (status, anyway))
             self.check(f"{title}, on a terminal", left_on_terminal(command, self.room), plain._replace(said=said))
             self.check(f"{title}, explained", left_elsewhere(explained, self.room), plain._replace(said=said))
@@ -893,6 +894,11 @@ class Further(harness.TestCase):
         for words, like in shown_commands():
             found = run_on_terminal(words, self.room, subprocess.DEVNULL, subprocess.DEVNULL, lambda: os.dup2(2, 1))
             self.check(f"{words}, its output on a terminal", found, reference.answer(like, self.room))
+        names = "<LOG> <LIST> <EXPECTED>"
+        lacking = "".join(f"  {name}\n" for name in names.split())
+        text = f"error: the following required arguments were not provided:\n{lacking}\nUsage: ima-agent verify {names}\n{MORE}"
+        found = run_on_terminal(["verify"], self.room, subprocess.DEVNULL, subprocess.DEVNULL, lambda: os.dup2(2, 1))
+        self.check("a refusal, all on one terminal, of the arguments as they were given", found, (2, b"refused: command line\n" + text.encode()))
 
     def test_pace(self):
         """Measurements of pipes show each number in turn, from 1 on, after more than a second, and none before."""

@@ -13,8 +13,8 @@ A command of each kind (those of `tests/faults/sweep.py`) runs again and again, 
   file fail in turn. The answer must be `failed: write` with its name, and what has that name must stay as it was.
 - Each write fails in turn, or takes no byte. What was written must be a prefix of the output, with nothing after it, and the status 3.
 
-Standard error must be empty; but with `--explain` it must have that the file cannot be read or written. If a call fails in the second look at
-inputs, the answer must be the same, and standard error that of an input, or of a prefix of the list, which is not looked at again.
+Standard error must have that the file or the output cannot be read or written. If a call fails in the second look at inputs, the answer must be the
+same, and standard error that of an input, or of a prefix of the list, which is not looked at again.
 
 For each command the script prints how many calls failed. It counts commands."""
 

@@ -4,8 +4,9 @@
 use hints::{Audience, SystemProgress};
 use ima_agent::{
     Listener, SystemFiles, WriteSink, arguments_after_name, as_on_terminal, asks_quiet,
-    color_choice, exit_code,
+    color_choice, exit_code, refusal_of,
 };
+use std::alloc::Global;
 use std::io::IsTerminal;
 use std::process::ExitCode;
 use std::rt::Env;
@@ -15,11 +16,16 @@ use terminal_colors::{ColorChoice, ColorSink, is_colored};
 /// The arguments after the program's name, for an output that is a terminal or is none. Fails if memory runs out, or if one is not UTF-8.
 fn arguments(rt: &(impl Env + AllocGlobal), is_terminal: bool) -> io::Result<Vec<String>> {
     let arguments = arguments_after_name(rt.alloc(), env::args(rt)?)?;
-    if is_terminal {
+    if is_terminal && are_taken(rt.alloc(), &arguments) {
         Ok(as_on_terminal(rt.alloc(), arguments)?)
     } else {
         Ok(arguments)
     }
+}
+
+// Whether these are arguments of a command: of wrong ones nothing is said that nobody gave.
+fn are_taken(alloc: Global, arguments: &[String]) -> bool {
+    matches!(refusal_of(alloc, arguments), Ok(None))
 }
 
 // Whether these arguments ask for silence.
