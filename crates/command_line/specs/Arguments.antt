@@ -545,9 +545,9 @@ asks_quiet arguments = nat_le 1 (length arguments) && asks_first (drop 1 argumen
 
 -- ---- colours
 
--- The command of this name judges, and its report may have colours.
+-- The command prints a report, which may have colours.
 abbrev pub may_color : List ℕ → Bool
-may_color command = list_any (λ name. bytes_eq command name) (codes "verify" ∷ codes "attest" ∷ codes "replay" ∷ codes "locate" ∷ [])
+may_color word = bytes_eq word (codes "verify") || bytes_eq word (codes "attest") || bytes_eq word (codes "replay") || bytes_eq word (codes "locate")
 
 -- The arguments are those of such a command.
 abbrev pub reports : List (String Global) → Bool
