@@ -18,6 +18,8 @@ OF_LIST = 10
 # Which errors are the list's, after log, quote or expected registers were taken (docs/errors.txt).
 _OF_BROKEN_LIST = ("list", "replay")
 _AT_RESET = "at reset"
+# How the error after a confirmed prefix is named by the report, and by commands that take no prefix.
+_END_OF_PREFIX = ("unconfirmed: ", "refused: ")
 EARLIER_EVENTS = f"events {BEFORE}"
 
 
@@ -84,9 +86,13 @@ class Reached(NamedTuple):
     entries: int = 0
 
     @property
+    def is_match(self) -> bool:
+        return self.state == "match"
+
+    @property
     def is_at_reset(self) -> bool:
         """Whether this is a match of a register that nothing extended: it confirms nothing."""
-        return self.state == "match" and self.place == _AT_RESET
+        return self.is_match and self.place == _AT_RESET
 
 
 class Judgement(NamedTuple):
@@ -170,15 +176,25 @@ class Boot:
 
     @property
     def faults(self) -> Dict[str, str]:
-        """Why a reply is not whole, by the command's name."""
-        return {name: reply.fault for name, reply in self.replies.items() if not reply.is_whole}
+        """Why a reply is not whole, by the command's name. That a list ends where the report says so is no error of a reply."""
+        end = str(self.report.get("unconfirmed", {}).get("message", "")).replace(*_END_OF_PREFIX, 1)
+        return {name: reply.fault for name, reply in self.replies.items() if not reply.is_whole and reply.fault != end}
+
+    @property
+    def failures(self) -> Dict[str, List[str]]:
+        """Besides the error for which there is no verdict, why replies are not whole, each with the names of their commands."""
+        found: Dict[str, List[str]] = {}
+        for name, fault in self.faults.items():
+            if fault != self.verdict.fault:
+                found.setdefault(fault, []).append(name)
+        return found
 
     @property
     def status(self) -> int:
         """The program's: of its verdict, or if all is well there, of the first reply that is not whole."""
         if self.word not in ("match", "differ"):
             return self.verdict.status if self.verdict.status > 1 else STOPPED
-        failed = [reply.status for reply in self.replies.values() if not reply.is_whole]
+        failed = [self.replies[name].status for name in self.faults]
         return failed[0] if failed and self.word == "match" else self.verdict.status
 
     @property
@@ -203,10 +219,18 @@ class Boot:
         places = {(row["bank"], row["register"]): row for line in lines for row in line["registers"]}
         rows = {(row["bank"], row["register"]): row for row in report.get("registers", []) if self.report or row["register"] != OF_LIST}
         count = report.get("entries", 0)
+        if "unconfirmed" in report:  # (`locate` takes no such list, and had an empty one)
+            end: Line = {"place": "entry", "number": report["confirmed"] - 1} if report["confirmed"] else {}
+            places.update({name: end if row["state"] == "match" else {} for name, row in rows.items() if name[1] == OF_LIST})
         return [
             Reached(*name, row.get("state", ""), row.get("expected", ""), row.get("value", ""), *_place(places.get(name, {}), count))
             for name, row in rows.items()
         ]
+
+
+def known_name(number: int) -> str:
+    """The name of the copy of a file of known digests."""
+    return f"known{number}"
 
 
 def covered(count: int, total: int) -> str:
@@ -243,7 +267,7 @@ def _copied(folder: Path, criteria: Criteria, work: Path) -> Tuple[List[Input], 
         sent.append(EXPECTED)
     own = [] if criteria.key is None else [copy(Path(criteria.key), work / KEY, False)]
     own += [] if criteria.before is None else [_copied_earlier(Path(criteria.before), work / BEFORE)]
-    own += [copy(Path(path), work / f"known{number}", False) for number, path in enumerate(criteria.known)]
+    own += [copy(Path(path), work / known_name(number), False) for number, path in enumerate(criteria.known)]
     return [copy(folder / name, work / name, True)._replace(is_sent=True) for name in sent], own
 
 
@@ -269,7 +293,7 @@ def boot_of(folder: Path, criteria: Criteria, work: Path) -> Boot:
 
 def _judged(criteria: Criteria, work: Path, known: int, unread: Sequence[str]) -> Judgement:
     """What the program judges, by so many known files. As in a run, nothing is no match; and neither is a boot of which a file is not read."""
-    words = [*criteria.requirement, *criteria.replayed, *criteria.bound, *(f"--known=known{number}" for number in range(known))]
+    words = [*criteria.requirement, *criteria.replayed, *criteria.bound, *(f"--known={known_name(number)}" for number in range(known))]
     words += ["--prefix"] if criteria.prefix else []
     command, names = ["verify"], [LOG, LIST, EXPECTED]
     if criteria.is_quoted:
@@ -321,11 +345,12 @@ def _confirm(boot: Boot, criteria: Criteria, work: Path) -> None:
     boot.is_confirming = bool(confirming)
     if boot.proof is not boot.judgement and not boot.proof.reply.is_whole:
         boot.replies["verify"] = boot.proof.reply
+    if boot.judgement.is_list_broken or "unconfirmed" in boot.report:
+        listed = NO_LIST
+        (work / NO_LIST).touch()
     if not boot.report:
         command, *names = "registers", LOG
         if boot.judgement.is_list_broken:
-            listed = NO_LIST
-            (work / NO_LIST).touch()
             command, *names = (command, *names) if criteria.is_quoted else ("verify", LOG, NO_LIST, EXPECTED)
         boot.alone = Judgement(asking(command, *criteria.replayed, "--", *names, statuses=(0, 1))).report
     if not criteria.is_quoted or boot.report.get("expected") == "confirmed":

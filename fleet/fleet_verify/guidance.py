@@ -3,9 +3,10 @@
 import shlex
 from typing import Dict, Iterator, List, NamedTuple, Sequence, Set, Tuple
 
-from .boot import OF_LIST, Boot, Criteria, Reached, covered
+from .boot import KEY, OF_LIST, Boot, Criteria, Reached, covered, known_name
 from .field_names import pcrs
 from .schema import GOOD_AGGREGATES
+from .wording import ABSENT
 
 # What is wrong, by the kind of an error (docs/errors.txt), where the program says no more.
 ERRORS = {
@@ -17,6 +18,7 @@ ERRORS = {
 }
 _CODES = ("refused: ", "failed: ")
 _ARGUMENTS = "refused: command line"
+_NOT_STARTED = "cannot be started"
 
 _AGGREGATES = {
     "wrong": "The boot aggregate is wrong: log and list are from different boots, or one of them was changed.",
@@ -24,10 +26,12 @@ _AGGREGATES = {
     "missing": "The boot aggregate is missing: the list does not begin with one.",
 }
 _STATES = {
-    "differ": ("differs", "differ", "log and list make another value than the expected one"),
-    "missing": ("is missing", "are missing", "required, but not expected"),
+    "differ": ("differs", "differ", "log and list make a value other than the expected one"),
+    "missing": ("is missing", "are missing", "required, but expected.txt has no value"),
     "absent": ("is absent", "are absent", "the log has no such bank or PCR"),
 }
+# Of which errors the input comes from the machine's kernel and firmware, and not from who collects.
+_MACHINE_S = ("log", "list", "replay")
 _ON_THE_MACHINE = "FOLDER  # on the machine, as root"
 _COLLECT = (f"ima-collect {_ON_THE_MACHINE}",)
 _SIGN = ("openssl rand -hex 20  # the nonce, in HEX", f"ima-collect --nonce HEX {_ON_THE_MACHINE}")
@@ -61,7 +65,7 @@ def reasons(boot: Boot, criteria: Criteria) -> List[str]:
     if boot.word == "match":
         by = "The given key signed the quoted PCRs. Log and list make them." if criteria.is_quoted else "Log and list make the expected PCRs."
         return [by.replace("list", "the list's first part") if boot.judgement.is_on_prefix else by]
-    return [*_differences(boot)] if boot.word == "differ" else [*_errors(boot)]
+    return [*_differences(boot)] if boot.word == "differ" else [*_errors(boot, criteria)]
 
 
 def _differences(boot: Boot) -> Iterator[str]:
@@ -82,25 +86,33 @@ def _differences(boot: Boot) -> Iterator[str]:
         count, first = len(boot.unknown), boot.unknown[0]
         yield f"Entry {first} is unknown." if count == 1 else f"Unknown entries: {count}, the first is entry {first}."
     for each in boot.report.get("extends", []):
-        kind = "event" if "event" in each else "entry"
-        yield f"Log and list are not apart: {kind} {each[kind]} extends PCR {each['register']}."
+        kind, own, other = ("event", "log", "list") if "event" in each else ("entry", "list", "log")
+        yield f"{kind.capitalize()} {each[kind]} of the {own} extends PCR {each['register']}, which only the {other} may extend."
 
 
-def _errors(boot: Boot) -> Iterator[str]:
+def _errors(boot: Boot, criteria: Criteria) -> Iterator[str]:
     """Why there is no verdict: which files were not read, and what the program says in words."""
     fault = boot.verdict.fault
     yield from (f"{each.name} is not read: {each.fault}." for each in boot.inputs if each.fault)
-    said = [line for line in boot.verdict.said.splitlines() if line and line not in fault and not boot.unread]
+    said = [_named(line, criteria) for line in boot.verdict.said.splitlines() if line and line not in fault and not boot.unread]
     if not fault:
         yield f"The program's status {boot.verdict.status} is not that of its report."
     elif fault in [f"{each.name} is not read: {each.fault}" for each in boot.unread]:
         return  # (that is said)
     elif not is_coded(fault):
-        yield from (line for line in f"{fault[:1].upper()}{fault[1:]}.".splitlines() if line)
+        begin = fault[:1] if _NOT_STARTED in fault else fault[:1].upper()  # (a program's name stays as it is)
+        yield from (line for line in f"{begin}{fault[1:]}.".splitlines() if line)
     elif not said and not boot.unread:
         kind = "command_line" if fault == _ARGUMENTS else boot.verdict.kind
         yield f"ima-agent gives no verdict: {ERRORS.get(kind, 'it says no more')}."
     yield from said
+
+
+def _named(line: str, criteria: Criteria) -> str:
+    """What the program says of a copy of the operator's file, with the file's own name."""
+    copies = {KEY: criteria.key, **{known_name(number): path for number, path in enumerate(criteria.known)}}
+    copy, colon, rest = line.partition(": ")
+    return f"{copies[copy]}: {rest}" if colon and copies.get(copy) else line
 
 
 def next_steps(boot: Boot, criteria: Criteria, call: Call) -> List[Step]:
@@ -131,7 +143,7 @@ def _after_match(boot: Boot, criteria: Criteria, call: Call) -> Iterator[Step]:
     if criteria.before is None:
         yield Step("What changed since an earlier boot? Compare with its folder:", (call.again("--before", "EARLIER_FOLDER"),))
     else:
-        yield Step("Look at what differs from the earlier boot:", part="before")
+        yield Step("Look at what differs from the earlier boot", part="before")
 
 
 def _quoting(call: Call) -> str:
@@ -146,16 +158,19 @@ def _after_difference(boot: Boot, criteria: Criteria, call: Call) -> Iterator[St
         yield _about_log(others, criteria, call)
     if boot.report.get("boot_aggregate", "good") not in GOOD_AGGREGATES:
         yield Step("Log and list must be from one boot. Collect both again:", _collecting(criteria))
-    states = {row.state for row in boot.registers}
-    if "missing" in states:
+    missing = [row for row in boot.registers if row.state == "missing"]
+    if missing and all(row.bank == "sha256" and row.number <= OF_LIST for row in missing):
+        yield Step("Collect the required PCRs, or require others with --require:", _collecting(criteria))
+    elif missing:  # (`ima-collect` takes no others)
         yield Step("Collect the required PCRs, or require others with --require.")
-    if "absent" in states:
+    if any(row.state == "absent" for row in boot.registers):
         yield Step("Require a bank that the log has, with --require.")
     if boot.unknown:
-        yield Step("Look at the unknown files. Add the digests of those that you know:", (call.again("--known", "/PATH/OF/MORE_SHA256SUMS"),), "unknown")
+        yield Step("Look at the unknown files", part="unknown")
+        yield Step("Add the digests of those that you know:", (call.again("--known", "/PATH/OF/MORE_SHA256SUMS"),))
     if boot.report.get("extends"):
         part = "events" if any("event" in each for each in boot.report["extends"]) else "entries"
-        yield Step("Look at this event or entry: nothing shows whether log or list extended its PCR.", part=part)
+        yield Step("Log and list may hide what ran there. Look at this event or entry", part=part)
 
 
 def _about_list(rows: Sequence[Reached], boot: Boot, criteria: Criteria, call: Call) -> Iterator[Step]:
@@ -186,16 +201,19 @@ def _about_log(numbers: Sequence[int], criteria: Criteria, call: Call) -> Step:
     text = f"{pcrs(numbers)}: the log is from another boot, incomplete or changed."
     if criteria.before is None:
         return Step(f"{text} Compare with an earlier boot:", (call.again("--before", "EARLIER_FOLDER"),))
-    return Step(f"{text} Look at what differs from the earlier boot:", part="before")
+    return Step(f"{text} Look at what differs from the earlier boot", part="before")
 
 
 def _after_error(boot: Boot, criteria: Criteria, call: Call) -> Iterator[Step]:
     fault, kind, again = boot.verdict.fault, boot.verdict.kind, _collecting(criteria)
-    if any(each.is_sent for each in boot.unread):
+    sent = [each for each in boot.inputs if each.is_sent]
+    if sent and all(each.fault == ABSENT for each in sent):
+        yield Step("Is this the right folder? It has no file of a boot. If it is, collect them:", again)
+    elif any(each.fault for each in sent):
         yield Step("Collect the files again:", again)
     elif boot.unread:
-        yield Step("Look at the names of the files in the call.")
-    elif "cannot be started" in fault:
+        yield Step("Check the file names in the command.")
+    elif _NOT_STARTED in fault:
         yield Step("Install ima-agent, or name its file with --program.")
     elif "did not end within" in fault:
         yield Step("Give the program more time, with --seconds.")
@@ -204,10 +222,12 @@ def _after_error(boot: Boot, criteria: Criteria, call: Call) -> Iterator[Step]:
     elif kind in ("key", "signature"):
         yield Step("Give the key that you enrolled for this machine, with --key.")
     elif kind == "known":
-        yield Step("Give what sha256sum printed, unchanged, with --known.")
+        yield Step("Give --known the unchanged output of sha256sum.")
     elif fault == _ARGUMENTS or kind == "command_line":
-        yield Step("See which arguments there are:", ("ima-report --help",))
+        yield Step("See the usage:", ("ima-report --help",))
     elif boot.word == "refused":
-        yield Step("If the files were not copied whole, or are from different times, collect again:", again)
+        yield Step("If the files were not copied whole, or at different times, collect again:", again)
+        if kind in _MACHINE_S:
+            yield Step("If the error persists, the machine sends a changed or damaged file: do not trust the machine.")
     else:
-        yield Step("Run the same command again. If the error stays, keep the folder, and report an error of ima-agent.")
+        yield Step("Run the same command again. If the error persists, keep the folder, and report a bug in ima-agent.")

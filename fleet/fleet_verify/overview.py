@@ -32,7 +32,7 @@ SELECT machine, algorithm, register, state, expected, value FROM registers
 WHERE state <> 'match' AND machine IN (SELECT machine FROM verdicts WHERE verdict = 'differ') ORDER BY machine, algorithm, register
 """
 _PREFIXES = "SELECT machine, confirmed, entries FROM prefixes"
-_MATCHING = "SELECT machine, matched FROM verdicts WHERE verdict = 'match'"
+_MATCHING = "SELECT machine, matched, signer IS NULL FROM verdicts WHERE verdict = 'match'"
 _UNQUOTED = "SELECT count(*) FROM verdicts WHERE verdict = 'match' AND signer IS NULL"
 _RETIRED = "SELECT machine, retired FROM retired ORDER BY retired"
 _LATE = "SELECT count(*) FROM verdicts WHERE poll IS NOT ? AND (poll IS NULL OR poll < ?)"
@@ -175,7 +175,7 @@ class Overview:
     alike: List[Group]
     changes: List[Change]
     bars: List[Bar]
-    matching: List[Tuple[str, Optional[str]]]
+    matching: List[Tuple[str, Optional[str], bool]]
     prefixes: List[Prefix]
 
     @property
@@ -253,7 +253,7 @@ def _since_end(connection: sqlite3.Connection, ended: str, poll: Optional[int], 
         warnings.append(f"Poll {last} has not ended: it is running, or was stopped.")
     late = _number(connection, _LATE, poll, poll) if poll is not None else 0
     if late:
-        warnings.append(f"Older than poll {poll}, the last that ended: {late} verdicts.")
+        warnings.append(f"{late} {'verdict is' if late == 1 else 'verdicts are'} older than poll {poll}, the last one that ended.")
     # (a worker's clock may differ from the client's)
     later = (moment + timedelta(seconds=_SECONDS)).isoformat(timespec="milliseconds")
     if last == poll and _number(connection, "SELECT count(*) FROM verdicts WHERE time > ?", later):

@@ -17,7 +17,15 @@ from .ending import telling
 # Python's mark of a byte that is not UTF-8, by `surrogateescape`.
 _BYTES = range(0xDC80, 0xDD00)
 
+# Letters and marks that show nothing, with which two names would look the same: Unicode's Default_Ignorable_Code_Point, and the blank of Braille.
+_BLANK = re.compile("[\u034f\u115f\u1160\u17b4\u17b5\u180b-\u180f\u2800\u3164\ufe00-\ufe0f\uffa0\U000e0100-\U000e01ef]")
+
 _POLICY = "default-src 'none'; style-src {}; script-src {}; base-uri 'none'; form-action 'none'"
+
+
+def is_seen(text: str) -> bool:
+    """Whether each character of a text has a glyph of its own, or is a space."""
+    return text.isprintable() and not _BLANK.search(text)
 
 
 def spelling(letter: str) -> str:
@@ -32,17 +40,17 @@ def spelling(letter: str) -> str:
 
 def shown(text: str) -> Markup:
     """A text as markup that shows each of its characters, and is nothing but text."""
-    if text.isprintable():
+    if is_seen(text):
         return escape(text)
-    runs = [(is_printable, "".join(letters)) for is_printable, letters in groupby(text, str.isprintable)]
+    runs = [(is_run_seen, "".join(letters)) for is_run_seen, letters in groupby(text, is_seen)]
     return Markup("").join(
-        escape(run) if is_printable else Markup(f'<span class="code">{"".join(map(spelling, run))}</span>') for is_printable, run in runs
+        escape(run) if is_run_seen else Markup(f'<span class="code">{"".join(map(spelling, run))}</span>') for is_run_seen, run in runs
     )
 
 
 def plain(text: str) -> Markup:
     """The same without elements, for a place that has none: a title, or a picture."""
-    return escape("".join(letter if letter.isprintable() else spelling(letter) for letter in text))
+    return escape("".join(letter if is_seen(letter) else spelling(letter) for letter in text))
 
 
 def text_of_bytes(data: bytes) -> str:

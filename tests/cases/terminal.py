@@ -309,8 +309,10 @@ def case_fault(command, folder, output):
     given = (folder / command.input).read_bytes() if command.input else None
     lines = [*said_anyway(command.words, text), *said_of_padding(command.words, folder, given or b"")] if status == 0 else []
     anyway = "".join(f"{line}\n" for line in lines).encode()
+    # (a case shows what comes elsewhere: of a difference only that no PCR was compared, which a terminal gets among the reasons)
+    alone = f"{NO_EXPECTED}\n".encode() if status == 1 and NO_EXPECTED in command.wanted else b""
     # (this may move the output away)
-    fault = fault_of(command, Answer(status, output, anyway), folder)
+    fault = fault_of(command, Answer(status, output, said if status >= 2 else anyway or alone), folder)
     if fault is not None:
         return f"the answer is another one:\n    {fault}"
     try:

@@ -80,7 +80,8 @@ def test_browser(tools):
     test_search(tools, folder, fleet, boot)
     test_sorting(tools, folder)
     test_pictures(tools, folder, fleet)
-    test_narrow(tools, folder, boot)
+    test_narrow(tools, folder, fleet, boot)
+    test_paper(tools, folder, fleet)
 
 
 def test_nothing_runs(tools, folder, pages, port, asked):
@@ -228,30 +229,67 @@ def test_pictures(tools, folder, fleet):
     tools.check("the page on paper", paper.read_bytes()[:5], b"%PDF-")
 
 
-# Tells the page around how wide a page is shown, how wide it is, and which of its parts end beyond that.
+# Tells the page around how wide a page is shown, how wide it is, how narrow the narrowest value is, and which parts of the page end beyond it.
 MEASURED = """
+for (const each of document.querySelectorAll("details")) each.open = true;
+const narrow = Array.from(document.querySelectorAll("td dd"), (each) => each.getBoundingClientRect().width).filter((each) => each > 0);
 const wide = Array.from(document.querySelectorAll("body *")).filter((each) => each.getBoundingClientRect().right > innerWidth + 1);
-parent.postMessage(`${innerWidth} ${document.documentElement.scrollWidth} ${wide.map((each) => each.tagName)}`, "*");
+const told = [innerWidth, document.documentElement.scrollWidth, Math.floor(Math.min(1000, ...narrow)), wide.map((each) => each.tagName)];
+parent.postMessage(told.join(" "), "*");
 """
-PHONE = 390
+PHONE, DESK, LEAST = 390, 1280, 160
 
 
-def test_narrow(tools, folder, boot):
-    """On a phone nothing of the page of a boot is cut, or beside the screen; with a table that is not in cards something would be."""
+def measured(tools, folder, pages):
+    """What MEASURED tells of these pages, each in a frame of a width."""
+    frames = []
+    for page, width in pages:
+        inner = changed(folder, f"{without_policy(page.read_text())}<script>{{ {MEASURED} }}</script>")
+        frame = f'<iframe src="{inner.name}" width="{width}" height="800"></iframe>'
+        frames.append(changed(folder, f"<!DOCTYPE html><title></title><script>onmessage = (told) => document.title = told.data</script>{frame}"))
+    shown = browse_all(tools, [(frame, "--dump-dom", "--virtual-time-budget=4000", f"--window-size={DESK + 100},900") for frame in frames])
+    for text, _ in shown:
+        shown_width, whole, least, *beyond = title_of(text).split(" ", 3)
+        yield int(shown_width), int(whole), int(least), "".join(beyond)
+
+
+def test_narrow(tools, folder, fleet, boot):
+    """On a phone nothing of a page is cut, or beside the screen; with a table that is not in cards something would be. Values that have parts, be
+    they as deep as those of a certificate, are nowhere narrow."""
     earlier = folder / "earlier.html"
     words = ("--before", SAMPLES / "ovmf-boot/systemd-boot.log")
     earlier.write_text(report_text(tools, make_boot(folder / "of two boots"), *words, "--known", most_known(folder))[1])
-    uncarded = changed(folder, re.sub('class="cards( sides)?"', "", earlier.read_text()))
-    pages = {"hostile texts": boot, "two boots": earlier, "two boots, without cards": uncarded}
-    frames = []
-    for page in pages.values():
-        measured = changed(folder, f"{without_policy(page.read_text())}<script>{{ {MEASURED} }}</script>")
-        frame = f'<iframe src="{measured.name}" width="{PHONE}" height="800"></iframe>'
-        frames.append(changed(folder, f"<!DOCTYPE html><title></title><script>onmessage = (told) => document.title = told.data</script>{frame}"))
-    for title, (shown, _) in zip(pages, browse_all(tools, [(frame, "--dump-dom", "--virtual-time-budget=4000") for frame in frames])):
-        width, whole, *beyond = title_of(shown).split(" ", 2)
+    pages = {"a fleet": fleet, "hostile texts": boot, "two boots": earlier}
+    for title in ("a fleet", "two boots"):
+        pages[f"{title}, without cards"] = changed(folder, re.sub('class="cards[^"]*"', "", pages[title].read_text()))
+    for title, (width, whole, _, beyond) in zip(pages, measured(tools, folder, [(page, PHONE) for page in pages.values()])):
         is_cut = "without" in title
-        tools.check(f"on a phone: {title}", (width, int(whole) > PHONE or bool("".join(beyond))), (str(PHONE), is_cut))
+        tools.check(f"on a phone: {title}", (width, whole > PHONE or bool(beyond)), (PHONE, is_cut))
+    ovmf, deep = SAMPLES / "ovmf-boot", folder / "deep.html"
+    files = {name: (ovmf / f"secure-boot.{ending}").read_bytes() for name, ending in (("firmware", "log"), ("ima", "list"), ("expected", "expected"))}
+    deep.write_text(report_text(tools, make_boot(folder / "with certificates", **files), "--before", ovmf / "systemd-boot.log")[1])
+    flat = changed(folder, deep.read_text().replace('<dd class="parts">', "<dd>"))
+    widths = [least for _, _, least, _ in measured(tools, folder, [(deep, DESK), (flat, DESK)])]
+    tools.check("values that have parts are not narrow", [width >= LEAST for width in widths], [True, False])
+
+
+# Says what is open on paper, and afterwards.
+PRINTED = """
+const open = () => Array.from(document.querySelectorAll("details"), (each) => Number(each.open)).join("");
+const said = [open()];
+for (const name of ["beforeprint", "afterprint"]) { dispatchEvent(new Event(name)); said.push(open()); }
+document.title = said.join(" ");
+"""
+
+
+def test_paper(tools, folder, fleet):
+    """On paper long texts and machines that do not match are not folded, and are folded again afterwards."""
+    page = changed(folder, f"{without_policy(fleet.read_text())}<script>{{ {PRINTED} }}</script>")
+    shown = browse(tools, page, "--dump-dom", "--virtual-time-budget=2000")[0]
+    parts = [part for part in Reader(shown).top.all("details")]
+    opened = "".join("1" if part.attributes.get("class") == "paper" or around(part, "table") or around(part, "li") else "0" for part in parts)
+    folded_ = "0" * len(parts)
+    tools.check("what is open on paper", (title_of(shown).split(" "), "1" in opened), ([folded_, opened, folded_], True))
 
 
 def first_pixel(data):

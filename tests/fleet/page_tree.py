@@ -20,6 +20,8 @@ HOSTILE = [
     ("\u2066\u2069\ufeff\u200f\u061c\u2028", "\\u2066\\u2069\\ufeff\\u200f\\u061c\\u2028"),
     ("red \x1b[31m\x07\x7f\x9b tab\tline\nend\r\x01", "red \\x1b[31m\\x07\\x7f\\x9b tab\\x09line\\x0aend\\x0d\\x01"),
     ("wide\xa0space\u3000\U000e0041\U0010ffff", "wide\\xa0space\\u3000\\U000e0041\\U0010ffff"),
+    ("sh\u3164\u115f\u1160\u2800\ufe0f\u034f\u17b4\u180b\uffa0\U000e0100",
+     "sh\\u3164\\u115f\\u1160\\u2800\\ufe0f\\u034f\\u17b4\\u180b\\uffa0\\U000e0100"),
     ("\u05e9\u05dc\u05d5\u05dd a" + 300 * "\u0301", "\u05e9\u05dc\u05d5\u05dd a" + 300 * "\u0301"),
     (LONG, LONG),
 ]

@@ -347,12 +347,12 @@ def test_states(tools, folder):
     match = {"a": answer_of("match", 1), "b": answer_of("match", 2)}
     differ = {**match, "b": answer_of("differ", 2, others=(4,))}
     old, to_come = "2026-01-01T00:00:00.000+00:00", "2999-01-01T00:00:00.000+00:00"
-    earlier = "Older than poll 2, the last that ended: 1 verdicts"
+    earlier = "1 verdict is older than poll 2, the last one that ended."
     calls, wanted = [], []
     for title, polls, edit, words, told, is_wanted in (
         ("all match", match, None, (), "All 2 machines match", True),
         ("all match by polls", [match, match], None, (), "All 2 machines match", True),
-        ("matches without a quote", match, None, (), "2 of these matches rest on unsigned PCR values.", True),
+        ("matches without a quote", match, None, (), "2 of these matches rest on unsigned PCR values: a compromised kernel can state any.", True),
         ("one differs", differ, None, (), "1 of 2 machines match", False),
         ("no verdict", {}, None, (), "No machine has a verdict", False),
         ("a poll that has not ended", [match, match], "DELETE FROM ends WHERE poll = 2", (), "Poll 2 has not ended", False),
@@ -442,7 +442,7 @@ def test_quoted_table(tools, folder):
     wanted = [["b", "50 min", "3", "1"], ["c", "90 s", "3", "1"], ["a", "4 s", "3", "1"], ["d", "1 s", "3", "1"]]
     tools.check("quotes: the oldest first", [row[:4] for row in rows], wanted)
     tools.check("quotes: keys", [row[4] for row in rows], [letter * 64 for letter in "eedf"])
-    unsigned = "2 of these matches rest on unsigned PCR values." in state_of(page)[0]
+    unsigned = "2 of these matches rest on unsigned PCR values:" in state_of(page)[0]
     found = ("4 of 6 machines were judged by a quote." in next(page.all("main")).text, unsigned)
     tools.check("quotes: how many machines have one", found, (True, True))
     facts = [each.text for each in next(page.all("main")).all("li") if "PCR" in each.text]
@@ -451,6 +451,9 @@ def test_quoted_table(tools, folder):
     tools.check("quotes: why a machine differs", rows_below(page, "Reasons")[0][2], wanted)
     told = [each.text for each in page.all("div") if each.text.startswith("One key signed for 2 machines: b, c")]
     tools.check("quotes: one key of two machines is told", len(told), 1)
+    found = [text.endswith(", unsigned") for text in named(page)]
+    tools.check("quotes: which matches have none", found, [False, False, False, True, True])
+    test_signed_look(tools, folder, answers)
     test_quote_ages(tools, folder, quote)
     alike = make_table(folder / "alike.db", {
         "a": answer_of("match", 7), "b": answer_of("match", 7), "c": answer_of("match", 8),
@@ -458,6 +461,15 @@ def test_quoted_table(tools, folder):
     })
     rows = rows_below(shown_page(tools, alike), "Machines with the same list")
     tools.check("machines with the same list are told", rows, [["2", "a, b", f"{7:064x}"]])
+
+
+def test_signed_look(tools, folder, answers):
+    """Where all machines match, the page has the colour of a match only if each match rests on a quote."""
+    signed = {name: answers[name] for name in "abc"}
+    for title, given, look in (("all", signed, "state match"), ("all but one", {**signed, "e": answers["e"]}, "state unquoted")):
+        page = shown_page(tools, make_table(folder / f"signed {title}.db", given))
+        looks = [each.attributes["class"] for each in page.all("div") if each.attributes.get("class", "").startswith("state")]
+        tools.check(f"quotes: how a page looks where {title} have one", looks, [look])
 
 
 def test_quote_ages(tools, folder, quote):

@@ -65,7 +65,7 @@ def matches():
     good, signed = report("match", (10, "match")), "The given key signed the quoted PCRs. Log and list make them."
     plain, ask = "Log and list make the expected PCRs.", "Have the machine's TPM sign its PCRs with a nonce from you, and judge by that quote:"
     there = "The folder has a quote. Judge by it, with the key of the machine's TPM and the nonce that you gave out:"
-    part, look = report("match", (10, "match"), confirmed=99), ["Look at what differs from the earlier boot:", "before"]
+    part, look = report("match", (10, "match"), confirmed=99), ["Look at what differs from the earlier boot", "before"]
     return {
         "a match": (good, [plain], [[ask, NONCE, SIGN, QUOTED, ""], ASK_KNOWN, ASK_BEFORE]),
         "a match beside a quote": ({**good, "other": True}, [plain], [[there, QUOTED, ""], ASK_KNOWN, ASK_BEFORE]),
@@ -83,7 +83,7 @@ def matches():
 
 
 def differences():
-    other, lacks = "log and list make another value than the expected one", "the log has no such bank or PCR"
+    other, lacks = "log and list make a value other than the expected one", "the log has no such bank or PCR"
     grown = ("PCR 10 has its expected value after the first 99 of 100 entries: the list grew after the PCR was read, or the value is old. Judge that "
              "part, or collect again:")
     nowhere = "No part of the list makes the expected value of PCR 10: entries are missing, or were added or changed. Collect again:"
@@ -105,10 +105,15 @@ def differences():
         ),
         "a PCR of the log, compared": (
             {**report("differ", (7, "differ", "00")), "given": {"before": "b"}}, [f"sha256 PCR {register_words(7)} differs: {other}."],
-            [[f"PCR {register_words(7)}: {log} Look at what differs from the earlier boot:", "before"]],
+            [[f"PCR {register_words(7)}: {log} Look at what differs from the earlier boot", "before"]],
         ),
         "a PCR that is missing": (
-            report("differ", (3, "missing")), [f"sha256 PCR {register_words(3)} is missing: required, but not expected."],
+            report("differ", (3, "missing")), [f"sha256 PCR {register_words(3)} is missing: required, but expected.txt has no value."],
+            [["Collect the required PCRs, or require others with --require:", COLLECT, ""]],
+        ),
+        "PCRs that are missing, and that ima-collect does not take": (
+            report("differ", (3, "missing"), ("sha1", 3, "missing")),
+            [f"{bank} PCR {register_words(3)} is missing: required, but expected.txt has no value." for bank in ("sha256", "sha1")],
             [["Collect the required PCRs, or require others with --require.", ""]],
         ),
         "a bank that is absent": (
@@ -126,15 +131,15 @@ def other_differences(gone, ten_says, nowhere):
     return {
         "unknown entries": (
             report("differ", unknown=[7]), ["Entry 7 is unknown."],
-            [["Look at the unknown files. Add the digests of those that you know:", more, "unknown"]],
+            [["Look at the unknown files", "unknown"], ["Add the digests of those that you know:", more, ""]],
         ),
         "an event of the list's PCR": (
-            report("differ", extends=[{"event": 25, "register": 10}]), ["Log and list are not apart: event 25 extends PCR 10."],
-            [["Look at this event or entry: nothing shows whether log or list extended its PCR.", "events"]],
+            report("differ", extends=[{"event": 25, "register": 10}]), ["Event 25 of the log extends PCR 10, which only the list may extend."],
+            [["Log and list may hide what ran there. Look at this event or entry", "events"]],
         ),
         "an entry of the log's PCR": (
-            report("differ", extends=[{"entry": 7, "register": 9}]), ["Log and list are not apart: entry 7 extends PCR 9."],
-            [["Look at this event or entry: nothing shows whether log or list extended its PCR.", "entries"]],
+            report("differ", extends=[{"entry": 7, "register": 9}]), ["Entry 7 of the list extends PCR 9, which only the log may extend."],
+            [["Log and list may hide what ran there. Look at this event or entry", "entries"]],
         ),
         "two reasons to collect": (
             {**report("differ", (10, "differ", "00"), boot_aggregate="wrong"), **gone}, [ten_says, f"The boot aggregate is {AGGREGATES['wrong']}."],
@@ -148,31 +153,41 @@ def other_differences(gone, ten_says, nowhere):
 
 
 def errors():
-    copied = ["If the files were not copied whole, or are from different times, collect again:", COLLECT, ""]
-    cut, gone = "refused: list fault 1 at entry 49", ["ima.list", 0, "", "it is not there", True]
-    again = ["Run the same command again. If the error stays, keep the folder, and report an error of ima-agent.", ""]
+    copied = ["If the files were not copied whole, or at different times, collect again:", COLLECT, ""]
+    stays = ["If the error persists, the machine sends a changed or damaged file: do not trust the machine.", ""]
+    cut, gone, there = "refused: list fault 1 at entry 49", ["ima.list", 0, "", "it is not there", True], ["expected.txt", 9, "00", "", True]
+    again = ["Run the same command again. If the error persists, keep the folder, and report a bug in ima-agent.", ""]
     new = ["Ask for a new quote with a new nonce, and judge by that nonce:", NONCE, SIGN, ""]
     return {
-        "an error in words": (error(2, cut, "list", "entry 49: it is cut\nCopy it again."), ["entry 49: it is cut", "Copy it again."], [copied]),
-        "an error without words": (error(2, cut, "list"), ["ima-agent gives no verdict: a list is not valid."], [copied]),
+        "an error in words": (
+            error(2, cut, "list", "entry 49: it is cut\nCopy it again."), ["entry 49: it is cut", "Copy it again."], [copied, stays],
+        ),
+        "an error of expected PCRs": (error(2, "refused: expected fault 2 at line 25", "expected", "twice"), ["twice"], [copied]),
+        "an error without words": (error(2, cut, "list"), ["ima-agent gives no verdict: a list is not valid."], [copied, stays]),
         "an error of no known kind": (error(3, "failed: otherwise", "x"), ["ima-agent gives no verdict: it says no more."], [again]),
         "wrong arguments": (
             error(2, "refused: command line"), ["ima-agent gives no verdict: the arguments are wrong, or there are 2^32 FILEs or more."],
-            [["See which arguments there are:", "ima-report --help", ""]],
+            [["See the usage:", "ima-report --help", ""]],
         ),
-        "a file that is not there": (error(3, "failed: read ima.list", "read", "cannot read ima.list", unread=[gone]),
+        "a file that is not there": (error(3, "failed: read ima.list", "read", "cannot read ima.list", unread=[gone, there]),
                                      ["ima.list is not read: it is not there."], [["Collect the files again:", COLLECT, ""]]),
+        "a folder without files of a boot": (
+            error(3, "failed: read ima.list", "read", "cannot read ima.list", unread=[gone]), ["ima.list is not read: it is not there."],
+            [["Is this the right folder? It has no file of a boot. If it is, collect them:", COLLECT, ""]],
+        ),
         "a file of the operator": (error(2, "failed: read known0", "read", unread=[["k", *gone[1:4]]]), ["k is not read: it is not there."],
-                                   [["Look at the names of the files in the call.", ""]]),
-        "no program": (error(3, "p cannot be started: no"), ["P cannot be started: no."], [["Install ima-agent, or name its file with --program.", ""]]),
+                                   [["Check the file names in the command.", ""]]),
+        "no program": (error(3, "p cannot be started: no"), ["p cannot be started: no."], [["Install ima-agent, or name its file with --program.", ""]]),
         "a program that fails in lines": (error(3, "one\n\ntwo", "", "one\n\ntwo"), ["One", "two."], [again]),
         "a program that takes too long": (error(3, "the program did not end within 1 seconds"), ["The program did not end within 1 seconds."],
                                           [["Give the program more time, with --seconds.", ""]]),
         "another nonce": (error(4, "refused: quote fault 11", "quote", "another", given=BY_KEY), ["another"], [new]),
         "another key": (error(4, "refused: signature fault 9", "signature", "not signed", given=BY_KEY), ["not signed"],
                         [["Give the key that you enrolled for this machine, with --key.", ""]]),
-        "no digests": (error(2, "refused: known fault 2 at line 1", "known", "no digest"), ["no digest"],
-                       [["Give what sha256sum printed, unchanged, with --known.", ""]]),
+        "no digests": (
+            error(2, "refused: known fault 2 at line 1", "known", "known1: no digest", given={"known": ["a", "b/c"]}), ["b/c: no digest"],
+            [["Give --known the unchanged output of sha256sum.", ""]],
+        ),
         "a status of another verdict": ({**report("differ"), "status": 0}, ["The program's status 0 is not that of its report."], [again]),
     }
 

@@ -162,7 +162,7 @@ def reports_of(tools, calls):
     return [(status, read(text), errors) for status, text, errors in texts_of(tools, calls)]
 
 
-OTHER_VALUE = "log and list make another value than the expected one"
+OTHER_VALUE = "log and list make a value other than the expected one"
 WRONG_AGGREGATE = "The boot aggregate is wrong: log and list are from different boots, or one of them was changed."
 # How a head looks: a match that is signed, one that is not, and no match.
 SIGNED, UNSIGNED, BAD = "state match", "state unquoted", "state"
@@ -170,14 +170,17 @@ NOBODY = "not quoted: nobody signed the PCRs"
 
 
 def judged(page):
-    """The verdict in the page's head, and how that looks. A match that nobody signed is called so there and in the title, and no other verdict is."""
+    """The verdict in the page's head, and how that looks. A match that nobody signed, or not of the whole list, is called so there and in the title,
+    and no other verdict is."""
     text, is_good = state_of(page)
     (look,) = [each.attributes["class"] for each in page.all("div") if each.attributes.get("class", "").split()[:1] == ["state"]]
     verdict = re.search(r"Verdict: (\w+)", text)[1]
     is_unsigned = verdict == "match" and "Not quoted: nobody signed the expected PCRs." in text
     looks = (BAD, UNSIGNED if is_unsigned else SIGNED)
-    found = (NOBODY in text, next(page.all("title")).text.startswith("match, not quoted: "), is_good, look in looks)
-    assert found == (is_unsigned, is_unsigned, look != BAD, True), (verdict, look, found)
+    is_part, title = verdict == "match" and "Nothing confirms what follows." in text, next(page.all("title")).text
+    begins = f"{verdict}{', not quoted' if is_unsigned else ''}{', not the whole list' if is_part else ''}: "
+    found = (NOBODY in text, "not the whole list" in text, title.startswith(begins), is_good, look in looks)
+    assert found == (is_unsigned, is_part, True, look != BAD, True), (verdict, look, found)
     plain = ["unsigned"] if "Not quoted: nobody signed the expected PCRs." in text else [""]
     assert [each.attributes.get("class", "") for each in page.all("main")] == plain, plain
     return verdict, look
@@ -583,8 +586,8 @@ def test_unknown_and_unconfirmed(tools, folder, boot, known):
     )
     reasons = {
         "a quote of another list": "Log and list do not make the quoted PCRs.", "another boot aggregate": WRONG_AGGREGATE,
-        "an entry of another register": "Log and list are not apart: entry 99 extends PCR 9.",
-        "an event of register 10": "Log and list are not apart: event 25 extends PCR 10.",
+        "an entry of another register": "Entry 99 of the list extends PCR 9, which only the log may extend.",
+        "an event of register 10": "Event 25 of the log extends PCR 10, which only the list may extend.",
     }
     for (title, _, status, word, parts), (found, page, _) in zip(cases, reports_of(tools, [(*call, *known) for _, call, *_ in cases])):
         tools.check(f"unknown entries, and {title}", (found, judged(page)), (status, (word, BAD)))
@@ -666,6 +669,19 @@ def test_prefixes(tools, folder):
         tools.check(title, said.splitlines(), wanted)
     for page in (found[0][1], differing):
         tools.check("where PCR 10 is reached", [row[4] for row in pcr_rows(page) if row[1] == "10"], [f"after {first}"])
+    (first_row, *_) = pcr_rows(differing)
+    tools.check("PCRs that differ come first", first_row[1:3], ["10", "differ"])
+    test_cut_prefix(tools, folder, data, pcr_rows(whole))
+
+
+def test_cut_prefix(tools, folder, data, whole):
+    """Bytes that are not an entry, after the confirmed ones, are said to be that, and make nothing else of the page incomplete."""
+    status, page, _ = report_of(tools, make_boot(folder / "prefix and bytes", ima=data + data[-95:-40]), "--prefix")
+    text, paragraphs = state_of(page)[0], [each.text for each in page.all("p")]
+    said = ("The verdict covers all 99 entries. Nothing confirms what follows." in text, "incomplete" in next(page.all("body")).text)
+    tools.check("a prefix before bytes that are not an entry", (status, judged(page), said), (0, ("match", UNSIGNED), (True, False)))
+    told = "PCR 10 covers all 99 entries. Bytes that are not an entry follow the last one here."
+    tools.check("a prefix before bytes that are not an entry: PCRs, and entries", (pcr_rows(page), told in paragraphs), (whole, True))
 
 
 def test_differences(tools, folder):
@@ -722,7 +738,7 @@ def compared_in(page):
             break
         if each.tag == "h3":
             name = each.text.removeprefix("PCR ")
-        elif found := re.match("(The same|Unknown, as no value confirms them): PCRs? (.*)\\.$", each.text):
+        elif found := re.match("(The same|Unknown, because no value confirms them): PCRs? (.*)\\.$", each.text):
             said = {"The same": "no difference"}.get(found[1], "unknown")
             sentences.update({register: said for register in registers_in(found[2])})
         elif each.tag == "p" and name:

@@ -61,6 +61,18 @@
   begin();
 })();
 
+// On paper nothing can be opened: long texts, and machines that do not match, are unfolded there, and folded again afterwards.
+(() => {
+  let opened = [];
+  addEventListener("beforeprint", () => {
+    opened = Array.from(document.querySelectorAll(":is(td, th, li) details, details.paper")).filter((each) => !each.open);
+    for (const each of opened) each.open = true;
+  });
+  addEventListener("afterprint", () => {
+    for (const each of opened.splice(0)) each.open = false;
+  });
+})();
+
 // Sorts a table by a column: a button in each head, which turns the order when it is pressed again. Numbers in names count as numbers.
 (() => {
   const order = new Intl.Collator("en", { numeric: true });

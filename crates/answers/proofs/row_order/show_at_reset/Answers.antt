@@ -10,7 +10,7 @@ loop-row-init c = no_rows (λ row. when (is_at_reset row) (reset_row row)) _
 pub loop-row-preserved : goal.loop-row-preserved
 loop-row-preserved c =
     one_more (λ row. when (is_at_reset row) (reset_row row)) c.args.rows.now c.loop-row.row-index
-    c.row-item.result c.loop-row-test.true c.loop-row.invariant (rw c.row-item.is at c.in_ok-show_if_at_reset.ensures)
+    _ c.loop-row-test.true c.loop-row.invariant c.in_ok-show_if_at_reset.ensures
 
 pub returns : goal.returns
 returns c =

@@ -10,7 +10,7 @@ loop-row-init c = no_rows (λ row. when (not (is_at_reset row)) (given_row row))
 pub loop-row-preserved : goal.loop-row-preserved
 loop-row-preserved c =
     one_more (λ row. when (not (is_at_reset row)) (given_row row)) c.args.rows.now c.loop-row.row-index
-    c.row-item.result c.loop-row-test.true c.loop-row.invariant (rw c.row-item.is at c.in_ok-show_if_other.ensures)
+    _ c.loop-row-test.true c.loop-row.invariant c.in_ok-show_if_other.ensures
 
 pub returns : goal.returns
 returns c =
