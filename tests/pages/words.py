@@ -37,7 +37,7 @@ BOUNDS = {
     "docs/layouts.txt": 2000,
     "docs/library.md": 1100,
     "docs/man/fleet-verify.1": 1850,
-    "docs/man/ima-agent.1": 3750,
+    "docs/man/ima-agent.1": 3800,
     "docs/man/ima-attest.1": 1050,
     "docs/man/ima-collect.1": 650,
     "docs/man/ima-enroll.1": 850,

@@ -66,6 +66,9 @@ ONLY_BESIDE_QUOTE = {**BESIDE_QUOTE, "--sha1": Option(FLAG, False), OLD_KERNEL: 
 # What tells which data of a log is confirmed.
 CONFIRMING = {"--expected": Option(str, None), "--quote": Option(str, None), **ONLY_BESIDE_QUOTE}
 
+# When a report has colours.
+COLOR = {"--color": Option(one_of("auto", "always", "never"), "auto")}
+
 # Whether the H-CRTM event of a log tells where the machine started.
 HCRTM = {"--hcrtm": Option(FLAG, False)}
 
@@ -94,6 +97,7 @@ COMMANDS = {
         "--resume": Option(str, None),
         EXPLAIN: Option(FLAG, False),
         **LOOKS,
+        **COLOR,
         "--json": Option(FLAG, False),
     }),
     "attest": Command(3, 4, {
@@ -109,9 +113,10 @@ COMMANDS = {
         "--resume": Option(str, None),
         EXPLAIN: Option(FLAG, False),
         **LOOKS,
+        **COLOR,
         "--json": Option(FLAG, False),
     }),
-    "locate": Command(3, 3, {**HCRTM, "--require": Option(str, None), EXPLAIN: Option(FLAG, False), "--json": Option(FLAG, False)}),
+    "locate": Command(3, 3, {**HCRTM, **COLOR, "--require": Option(str, None), EXPLAIN: Option(FLAG, False), "--json": Option(FLAG, False)}),
     "expected": Command(1, 1, {"--registers": Option(str, "all"), "--json": Option(FLAG, False)}),
     "key": Command(1, 1, {
         "--endorsement": Option(FLAG, False),
@@ -140,6 +145,7 @@ COMMANDS = {
         KNOWN: Option(str, [], is_repeated=True),
         EXPLAIN: Option(FLAG, False),
         **LOOKS,
+        **COLOR,
         "--json": Option(FLAG, False),
     }),
 }

@@ -1,7 +1,7 @@
 -- The commands as clap takes them, and the plan that comes from the arguments.
 use Rattle.std.specs.Prelude.{◌≡◌, Bool, true, false, Option, None, String, List, [], ◌∷◌, codes, Ok, Some, ℕ, ◌⊎◌, ◌||◌, ◌&&◌, ◌==◌, IsTrue, bytes_eq, drop, find, if◌then◌else◌, insert, length, map, nat_le, not, option_map, slice_get, unwrap_or, string_bytes}
 use Rattle.std.specs.Global.{Global, Vec}
-use Rattle.std.specs.List.{fold, list_any, starts_with}
+use Rattle.std.specs.List.{fold, list_any, position_or_len, starts_with}
 use Rattle.std.specs.Option.{option_map_or}
 use Rattle.clap.specs.Words.{App, Rule, Text, new_app, new_rule, with_rule, with_subcommand, Row, all_of, first_of, subcommand_of}
 use Rattle.clap.specs.Lexer.{usize_max}
@@ -42,6 +42,8 @@ use Rattle.agent_plans.specs.declared.plan.SigningOptions.{SigningOptions}
 use Rattle.agent_plans.specs.declared.plan.SigningOptions.TheVariants.{NotChecked, ByCaller, ByKey}
 use Rattle.agent_plans.specs.declared.plan.Task.{Task}
 use Rattle.agent_plans.specs.declared.plan.Task.TheVariants as tasks
+use Rattle.terminal_colors.specs.declared.choice.ColorChoice.{ColorChoice}
+use Rattle.terminal_colors.specs.declared.choice.ColorChoice.TheVariants.{Auto, Always, Never}
 use Rattle.tpm_keys.specs.declared.kinds.KeyPart.{KeyPart}
 use Rattle.tpm_keys.specs.declared.kinds.KeyPart.TheVariants as parts
 use Rattle.tpm_keys.specs.declared.kinds.Purpose.{Purpose}
@@ -57,6 +59,7 @@ pub record Parsers : Type 0 where
   pub limit : ValueParser
   pub prints : ValueParser
   pub parts : ValueParser
+  pub colors : ValueParser
 
 -- A required argument. (The rule of one that may be left out is `new_rule`.)
 abbrev pub required : Text → Rule
@@ -111,6 +114,7 @@ table parsers = (
       ∷ flag (codes "explain")
       ∷ flag (codes "summary")
       ∷ flag (codes "terminal")
+      ∷ optional (codes "color") (codes "auto") parsers.colors
       ∷ flag (codes "json")
       ∷ short_flag 113 (codes "quiet")  -- (`-q`)
       ∷ required (codes "LOG")
@@ -135,6 +139,7 @@ table parsers = (
           ∷ flag (codes "explain")
           ∷ flag (codes "summary")
           ∷ flag (codes "terminal")
+          ∷ optional (codes "color") (codes "auto") parsers.colors
           ∷ flag (codes "json")
           ∷ short_flag 113 (codes "quiet")
           ∷ required (codes "LOG")
@@ -150,6 +155,7 @@ table parsers = (
           ∷ beside (flag (codes "explain"))
           ∷ beside (flag (codes "summary"))
           ∷ flag (codes "terminal")
+          ∷ optional (codes "color") (codes "auto") parsers.colors
           ∷ flag (codes "json")
           ∷ short_flag 113 (codes "quiet")
           ∷ required (codes "LIST")
@@ -161,6 +167,7 @@ table parsers = (
       without_default (codes "require")
           ∷ flag (codes "hcrtm")
           ∷ flag (codes "explain")
+          ∷ optional (codes "color") (codes "auto") parsers.colors
           ∷ flag (codes "json")
           ∷ short_flag 113 (codes "quiet")
           ∷ required (codes "LOG")
@@ -535,6 +542,59 @@ asks_first words =
 -- The arguments ask for silence: one after the command does, and no `--` comes before it.
 abbrev pub asks_quiet : List (String Global) → Bool
 asks_quiet arguments = nat_le 1 (length arguments) && asks_first (drop 1 arguments)
+
+-- ---- colours
+
+-- The command prints a report, which may have colours.
+abbrev pub may_color : List ℕ → Bool
+may_color word = bytes_eq word (codes "verify") || bytes_eq word (codes "attest") || bytes_eq word (codes "replay") || bytes_eq word (codes "locate")
+
+-- The arguments are those of such a command.
+abbrev pub reports : List (String Global) → Bool
+reports [] = false
+reports (word ∷ words) = may_color (string_bytes word)
+
+-- The argument is `--json`.
+abbrev pub is_json_word : List ℕ → Bool
+is_json_word word = bytes_eq word (codes "--json")
+
+-- The first of these arguments that is `--` or `--json` is `--json`.
+abbrev pub asks_json : List (String Global) → Bool
+asks_json words =
+    option_map_or (λ word. is_json_word (string_bytes word))
+    (find (λ word. ends_options (string_bytes word) || is_json_word (string_bytes word)) words) false
+
+-- The argument is `--color`, alone or with its value.
+abbrev pub is_color_word : List ℕ → Bool
+is_color_word word = bytes_eq word (codes "--color") || begins_with (codes "--color=") word
+
+-- The choice of this name. (Arguments with another name are refused.)
+abbrev pub choice_of : List ℕ → ColorChoice
+choice_of name =
+    if bytes_eq name (codes "always") then Always else if bytes_eq name (codes "never") then Never else Auto
+
+-- What follows `--color`.
+abbrev pub choice_next : List (String Global) → ColorChoice
+choice_next [] = Auto
+choice_next (word ∷ words) = choice_of (string_bytes word)
+
+-- What the first of these arguments says of colours.
+abbrev pub choice_at : List (String Global) → ColorChoice
+choice_at [] = Auto
+choice_at (word ∷ words) =
+    if bytes_eq (string_bytes word) (codes "--color=always") then Always
+    else if bytes_eq (string_bytes word) (codes "--color=never") then Never
+    else if bytes_eq (string_bytes word) (codes "--color") then choice_next words
+    else Auto
+
+-- What the first `--color` says, unless `--` comes before it.
+abbrev pub choice_asked : List (String Global) → ColorChoice
+choice_asked words =
+    choice_at (drop (position_or_len (λ word. ends_options (string_bytes word) || is_color_word (string_bytes word)) words) words)
+
+-- When the output has colours: what `--color` says, for a report that is no JSON; otherwise never.
+abbrev pub color_choice : List (String Global) → ColorChoice
+color_choice arguments = if reports arguments && not (asks_json arguments) then choice_asked arguments else Never
 
 -- The command judges, so that its result can be shown as on a terminal.
 abbrev pub judges : List ℕ → Bool

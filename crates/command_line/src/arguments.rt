@@ -5,7 +5,7 @@ ghost use Rattle.clap.specs.Values.{kind_of};
 ghost use Rattle.clap.specs.Words.{Text as Words, found_of, rows_of, subcommand_rows_of};
 ghost use Rattle.std.specs.Vec.Iter.{into_iter_items};
 ghost use Rattle.agent_plans.specs.Plans.{HasLook, IsWithinRanges, IsWithin, NamesKnown, TakesKnown, look_of};
-ghost use Rattle.command_line.specs.Arguments.{BeginsWithVersion, HasHelpWord, HasComparison, HasQuery, HasValues, HasValuesIn, IsRequestedBy, IsHelp, IsPlanOrHelp, IsShownAs, asks_first, asks_help, asks_quiet, asks_version, begins_with, ends_options, help_options, is_quiet_word};
+ghost use Rattle.command_line.specs.Arguments.{BeginsWithVersion, HasHelpWord, HasComparison, HasQuery, HasValues, HasValuesIn, IsRequestedBy, IsHelp, IsPlanOrHelp, IsShownAs, asks_first, asks_help, asks_json, asks_quiet, asks_version, begins_with, choice_asked, choice_at, choice_next, choice_of, color_choice, ends_options, help_options, is_color_word, is_json_word, is_quiet_word, may_color, reports};
 ghost use Rattle.std.specs.List.{list_any};
 ghost use Rattle.cells.specs.declared.writer.Form.TheVariants.{Text};
 ghost use Rattle.agent_plans.specs.declared.plan.Plan.TheVariants as plans;
@@ -28,6 +28,7 @@ use ima_list::Template;
 use pcr_banks::Alg;
 use std::alloc::{AllocError, Global};
 use std::env::Args;
+use terminal_colors::ColorChoice;
 
 // What is wrong with `--print binary` beside `--json`.
 const NO_JSON_OF_BYTES: &str =
@@ -583,6 +584,116 @@ fn has_letter_q(letters: &[u8]) -> bool
     ensures { result ≡ list_any (λ letter. letter == 113) letters.now }
 {
     letters.iter().any(|letter| *letter == b'q')
+}
+
+/// When the output has colours: as the first `--color` says that follows no `--`, for a report that is no JSON; otherwise never. It does not
+/// matter whether the arguments are those of a command.
+pub fn color_choice(arguments: &[String]) -> ColorChoice
+    ensures { result ≡ color_choice arguments.now }
+{
+    if reports(arguments) && !asks_json(arguments) {
+        choice_asked(arguments)
+    } else {
+        ColorChoice::Never
+    }
+}
+
+// Whether the arguments are those of a command whose report may have colours.
+fn reports(arguments: &[String]) -> bool
+    ensures { result ≡ reports arguments.now }
+{
+    match arguments.first() {
+        None => false,
+        Some(command) => may_color(command),
+    }
+}
+
+// Whether the command of this name judges.
+fn may_color(command: &String) -> bool
+    ensures { result ≡ may_color (string_bytes command.now) }
+{
+    let name = command.as_str();
+    name == "verify" || name == "attest" || name == "replay" || name == "locate"
+}
+
+// Whether these arguments ask for JSON.
+fn asks_json(words: &[String]) -> bool
+    ensures { result ≡ asks_json words.now }
+{
+    match first_of_json(words) {
+        None => false,
+        Some(word) => is_json_word(word),
+    }
+}
+
+// The first of these arguments that is `--json`, or after which there are no options.
+fn first_of_json(words: &[String]) -> Option<&String>
+    ensures { option_map (λ word. word.now) result ≡ find (λ word. ends_options (string_bytes word) || is_json_word (string_bytes word)) words.now }
+{
+    words
+        .iter()
+        .find(|word| ends_options(word) || is_json_word(word))
+}
+
+// Whether this argument is `--json`.
+fn is_json_word(word: &String) -> bool
+    ensures { result ≡ is_json_word (string_bytes word.now) }
+{
+    word.as_str() == "--json"
+}
+
+// What the first `--color` says, unless `--` comes before it.
+fn choice_asked(words: &[String]) -> ColorChoice
+    ensures { result ≡ choice_asked words.now }
+{
+    match words
+        .iter()
+        .position(|word| ends_options(word) || is_color_word(word))
+    {
+        None => ColorChoice::Auto,
+        Some(place) => choice_at(&words[place..]),
+    }
+}
+
+// Whether this argument is `--color`, alone or with its value.
+fn is_color_word(word: &String) -> bool
+    ensures { result ≡ is_color_word (string_bytes word.now) }
+{
+    word.as_str() == "--color" || word.as_bytes().starts_with(b"--color=")
+}
+
+// What the first of these arguments says of colours.
+fn choice_at(words: &[String]) -> ColorChoice
+    ensures { result ≡ choice_at words.now }
+{
+    match words.first() {
+        None => ColorChoice::Auto,
+        Some(word) if word.as_str() == "--color=always" => ColorChoice::Always,
+        Some(word) if word.as_str() == "--color=never" => ColorChoice::Never,
+        Some(word) if word.as_str() == "--color" => choice_next(&words[1..]),
+        Some(_) => ColorChoice::Auto,
+    }
+}
+
+// What follows `--color`.
+fn choice_next(words: &[String]) -> ColorChoice
+    ensures { result ≡ choice_next words.now }
+{
+    match words.first() {
+        None => ColorChoice::Auto,
+        Some(word) => choice_of(word),
+    }
+}
+
+// The choice of this name. (`read_words` refuses others.)
+fn choice_of(name: &String) -> ColorChoice
+    ensures { result ≡ choice_of (string_bytes name.now) }
+{
+    match name.as_str() {
+        "always" => ColorChoice::Always,
+        "never" => ColorChoice::Never,
+        _ => ColorChoice::Auto,
+    }
 }
 
 // Whether this argument requests the version: it is `--version`, or short options that begin with `-V`.

@@ -152,6 +152,9 @@ const TERMINAL: ArgumentRow<'static> = row!("terminal"; ArgumentForm::Flag);
 /// Whether the H-CRTM's event says where the machine started.
 const HCRTM: ArgumentRow<'static> = row!("hcrtm"; ArgumentForm::Flag);
 
+/// When the result is coloured.
+const COLOR: ArgumentRow<'static> = row!("color"; ArgumentForm::Defaulted("WHEN", "auto", Values::Parsed(ValueParser::Names(&["auto", "always", "never"]))));
+
 /// Whether the result is printed as JSON.
 const JSON: ArgumentRow<'static> = row!("json"; ArgumentForm::Flag);
 
@@ -165,7 +168,7 @@ static COMMANDS: [CommandRow; 13] = [
         about: with_abouts!(; verify),
         arguments: &[
             REQUIRE, OLD_KERNEL, KNOWN, PREFIX, SAVE, RESUME, HCRTM, EXPLAIN, SUMMARY, TERMINAL,
-            JSON, QUIET, LOG, LIST, EXPECTED,
+            COLOR, JSON, QUIET, LOG, LIST, EXPECTED,
         ],
     },
     CommandRow {
@@ -187,6 +190,7 @@ static COMMANDS: [CommandRow; 13] = [
             EXPLAIN,
             SUMMARY,
             TERMINAL,
+            COLOR,
             JSON,
             QUIET,
             LOG,
@@ -204,6 +208,7 @@ static COMMANDS: [CommandRow; 13] = [
             row!("explain"; ArgumentForm::FlagBeside("EXPECTED")),
             row!("summary"; ArgumentForm::FlagBeside("EXPECTED")),
             TERMINAL,
+            COLOR,
             JSON,
             QUIET,
             LIST,
@@ -213,7 +218,9 @@ static COMMANDS: [CommandRow; 13] = [
     CommandRow {
         name: "locate",
         about: with_abouts!(; locate),
-        arguments: &[REQUIRE, HCRTM, EXPLAIN, JSON, QUIET, LOG, LIST, EXPECTED],
+        arguments: &[
+            REQUIRE, HCRTM, EXPLAIN, COLOR, JSON, QUIET, LOG, LIST, EXPECTED,
+        ],
     },
     CommandRow {
         name: "boot",

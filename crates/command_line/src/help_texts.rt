@@ -228,6 +228,7 @@ pub(crate) fn help_of<'a>(command: &str, id: &str) -> &'a str {
         "known" => help_of_known(command),
         "hcrtm" => "Start PCR 0 at 4 if LOG has an H-CRTM event",
         "explain" => help_of_explain(command),
+        "color" => "When the verdict and states have colours\n",
         "summary" => help_of_summary(command),
         "terminal" => "Print PCRs at reset last, and marked, as on a terminal",
         "partial" => "Print the entries before an error, as --json does",

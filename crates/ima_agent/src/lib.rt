@@ -28,7 +28,9 @@ pub use boot_verdict::{
     Aggregate, Located, Position, Report, Requirement, Row, State, VerifyFault, all_found,
     list_start, locate, locate_from, replay_from, required_found, verify, verify_from,
 };
-pub use command_line::{arguments_after_name, as_on_terminal, asks_quiet, refusal_of};
+pub use command_line::{
+    arguments_after_name, as_on_terminal, asks_quiet, color_choice, refusal_of,
+};
 pub use event_lines::write_events;
 pub use measuring::FileProgress;
 pub use pcr_values::{
