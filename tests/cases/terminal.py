@@ -127,8 +127,8 @@ int clock_gettime(clockid_t clock, struct timespec *now) {
 MORE = "\nFor more information, try '--help'.\n"
 REQUIRE, REGISTERS, NONCE = "--require <SELECTION>", "--registers <SELECTION>", "--nonce <HEX>"
 GRAMMAR = "items, separated by , or +: [BANK:]PCR, [BANK:]FIRST-LAST or [BANK:]all. An item without BANK uses the previous item's"
-UNBOUND = "PCR 10 is not selected in any bank, so the list would not be checked: add it, as in sha256:0-10"
-SHORT_NONCE = "a nonce has at least 16 bytes, which is 32 hexadecimal digits"
+UNBOUND = "PCR 10 is not selected in any bank, so the list would not be checked: add it, as in sha256:0-10, or sha256:10 for a list alone"
+SHORT_NONCE = "a nonce has at least 16 bytes, which is 32 hexadecimal digits: give all of the nonce that was sent"
 UNQUOTED = "PCR {} is not selected in any bank: a quote needs PCRs 0 to 10, as in sha256:0-10"
 WEAK = "PCR {} is selected only in the SHA-1 bank, which can be forged: require another bank, or add --sha1"
 
@@ -148,7 +148,7 @@ USAGES = [
     *((["events", "--explain", other, "L"], f"error: the argument '--explain' cannot be used with '{other}'\n") for other in ("--data", "--json")),
     *((["events", *more, "--expected", "E", "L"],
        "error: the argument '--expected <EXPECTED>' cannot be used without '--explain' or '--json'\n") for more in ([], ["--data"])),
-    *(([*words, "--known", "K"], "error: the argument '--known <FILE>' cannot be used without '--require'\n")
+    *(([*words, "--known", "K"], "error: the argument '--known <FILE>' cannot be used without '--require', such as --require sha256:0-10\n")
       for words in (["verify", "L", "M", "N"], ["replay", "L", "M"], ["replay", "L"])),
     (["key", "--print", "ascii", "L"],
      f"error: invalid value 'ascii' for '--print <PART>'\n  [possible values: all, name, pem]\n{MORE}"),
@@ -201,7 +201,7 @@ USAGES = [
       for command in (["boot"], ["events", "--json"], ["events"])),
     (["boot", "--signature", "S", "L"], "error: the argument '--signature <SIG>' cannot be used without '--quote'\n"),
     (["boot", "--old-kernel", "L"], "error: the argument '--old-kernel' cannot be used without '--quote'\n"),
-    (["verify", "--old-kernel", "L", "M", "E"], "error: the argument '--old-kernel' cannot be used without '--require'\n"),
+    (["verify", "--old-kernel", "L", "M", "E"], "error: the argument '--old-kernel' cannot be used without '--require', such as --require sha256:0-10\n"),
     (["attest", "--nonce", "00", "L", "M", "Q"],
      f"error: the following required arguments were not provided:\n  {REQUIRE}\n\n"
      f"Usage: ima-agent attest {NONCE} {REQUIRE} <LOG> <LIST> <QUOTE> [EXPECTED]\n{MORE}"),
@@ -364,7 +364,7 @@ def further_commands():
                   lambda: give("."))
     yield Command("standard input of list without an end", ["list", "-"],
                   Ended(2, b"refused: too long -\n", endless), lambda: give("/dev/zero"))
-    yield Command("a file of the name of standard input", ["show", "-"], Ended(3, b"failed: read -\n", b"cannot read -: No such file or directory\n"))
+    yield Command("a file of the name of standard input", ["show", "-"], Ended(3, b"failed: read -\n", b"cannot read -: here it is the name of a file: give /dev/stdin for standard input\n"))
     yield Command("a folder", ["show", "."], Ended(3, b"failed: read .\n", b"cannot read .: Is a directory\n"))
     for title, settle in (
         ("a full device", fill_output), ("a pipe that nobody reads", break_output), ("no standard output", lambda: os.close(1)),

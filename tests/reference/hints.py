@@ -66,7 +66,7 @@ LIST_FOR_TEXT = "it is the binary list, which needs no conversion: give it to th
 PRINTED_FOR_EXPECTED = "it is tpm2-tools output: convert it to EXPECTED with ima-agent expected"
 EXPECTED_FOR_PRINTED = "it is EXPECTED already: give it to ima-agent verify as it is"
 CAPITALS = "its banks are in capital letters: write sha256, not SHA256"
-PEM_FOR_AREA = "it is PEM text: give the public area as tpm2_createak -u writes it"
+PEM_FOR_AREA = "it is PEM text: give the public area as tpm2_createak -u writes it, or this text to attest --key"
 BANKS = tuple(f"{name} ".encode() for name in BY_NAME)
 PRINTED = (b"  sha", b"  sm3", b"pcrs:", b"sha1:", b"sha256:", b"sha384:", b"sha512:")
 

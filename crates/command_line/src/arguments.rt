@@ -44,11 +44,11 @@ const SUMMARY_BESIDE_TERMINAL: &str =
 
 // What is wrong with `--known` where no PCRs are required.
 const KNOWN_WITHOUT_REQUIRED: &str =
-    "error: the argument '--known <FILE>' cannot be used without '--require'\n";
+    "error: the argument '--known <FILE>' cannot be used without '--require', such as --require sha256:0-10\n";
 
 // What is wrong with `--old-kernel` there.
 const OLD_KERNEL_WITHOUT_REQUIRED: &str =
-    "error: the argument '--old-kernel' cannot be used without '--require'\n";
+    "error: the argument '--old-kernel' cannot be used without '--require', such as --require sha256:0-10\n";
 
 // What is wrong with `--explain` beside `--data`, and beside `--json`.
 const EXPLAINED_AS_BYTES: &str = "error: the argument '--explain' cannot be used with '--data'\n";
@@ -74,14 +74,8 @@ const STANDARD_INPUT_EARLIER: &str =
     "error: invalid value '-' for '--before <OLD_LOG>': it must be a file\n";
 
 // What is wrong with `--quote` without what is asked of a quote.
-const QUOTE_WITHOUT_LIST: &str =
-    "error: the argument '--quote <QUOTE>' cannot be used without '--list'\n";
-
-const QUOTE_WITHOUT_NONCE: &str =
-    "error: the argument '--quote <QUOTE>' cannot be used without '--nonce'\n";
-
-const QUOTE_WITHOUT_REQUIRED: &str =
-    "error: the argument '--quote <QUOTE>' cannot be used without '--require'\n";
+const QUOTE_WITHOUT_CRITERIA: &str =
+    "error: the argument '--quote <QUOTE>' cannot be used without '--list', '--nonce' and '--require'\n";
 
 // What is wrong with that without `--quote`.
 const LIST_WITHOUT_QUOTE: &str =
@@ -281,12 +275,11 @@ fn wrong_pair_of_quote(matches: &ArgMatches) -> Option<&'static str> {
         without_quote(matches)
     } else if matches.contains_id("expected") {
         Some(EXPECTED_BESIDE_QUOTE)
-    } else if !matches.contains_id("list") {
-        Some(QUOTE_WITHOUT_LIST)
-    } else if !matches.contains_id("nonce") {
-        Some(QUOTE_WITHOUT_NONCE)
-    } else if !matches.contains_id("require") {
-        Some(QUOTE_WITHOUT_REQUIRED)
+    } else if !(matches.contains_id("list")
+        && matches.contains_id("nonce")
+        && matches.contains_id("require"))
+    {
+        Some(QUOTE_WITHOUT_CRITERIA)
     } else {
         wrong_pair_of_signing(matches)
     }

@@ -153,7 +153,8 @@ const TERMINAL: ArgumentRow<'static> = row!("terminal"; ArgumentForm::Flag);
 const HCRTM: ArgumentRow<'static> = row!("hcrtm"; ArgumentForm::Flag);
 
 /// When the result is coloured.
-const COLOR: ArgumentRow<'static> = row!("color"; ArgumentForm::Defaulted("WHEN", "auto", Values::Parsed(ValueParser::Names(&["auto", "always", "never"]))));
+const COLOR: ArgumentRow<'static> =
+    row!("color"; ArgumentForm::Defaulted("WHEN", "auto", Values::Parsed(ValueParser::Names(&["auto", "always", "never"]))));
 
 /// Whether the result is printed as JSON.
 const JSON: ArgumentRow<'static> = row!("json"; ArgumentForm::Flag);

@@ -168,4 +168,4 @@ mistake_words mistakes.ListForText = codes "it is the binary list, which needs n
 mistake_words mistakes.PrintedForExpected = codes "it is tpm2-tools output: convert it to EXPECTED with ima-agent expected"
 mistake_words mistakes.ExpectedForPrinted = codes "it is EXPECTED already: give it to ima-agent verify as it is"
 mistake_words mistakes.Capitals = codes "its banks are in capital letters: write sha256, not SHA256"
-mistake_words mistakes.PemForArea = codes "it is PEM text: give the public area as tpm2_createak -u writes it"
+mistake_words mistakes.PemForArea = codes "it is PEM text: give the public area as tpm2_createak -u writes it, or this text to attest --key"

@@ -513,6 +513,7 @@ fn mistake_words(mistake: Mistake) -> &'static str
         Mistake::ExpectedForPrinted =>
             "it is EXPECTED already: give it to ima-agent verify as it is",
         Mistake::Capitals => "its banks are in capital letters: write sha256, not SHA256",
-        Mistake::PemForArea => "it is PEM text: give the public area as tpm2_createak -u writes it",
+        Mistake::PemForArea =>
+            "it is PEM text: give the public area as tpm2_createak -u writes it, or this text to attest --key",
     }
 }
