@@ -381,8 +381,8 @@ def hinted_commands():
     changed, lacks = f"sha256 PCR 4 differs: {OTHER_BOOT}", "EXPECTED lacks {} PCR {}: read it with the others"
     grown = ("PCR 10 covers the first 99 of 100 entries: the list grew after PCR 10 was read; collect again, or add --prefix to judge only the "
              "first 99")
-    earlier = ("sha256 PCR 10 differs: it was read at a different time than LIST, a kernel before 5.8 extended it with zero-padded SHA-1 digests, "
-               "or an entry is missing or was changed")
+    earlier = ("sha256 PCR 10 differs: read it and LIST again at the same time; if it still differs, a kernel before 5.8 extended it with zero-padded "
+               "SHA-1 digests, or an entry is missing or was changed")
     other = AGGREGATES["wrong"]
     yield "all matches", ["verify", "--require=sha256:0-10", *judged], 0, []
     yield "a list that grew", ["verify", "firmware.log", "longer.list", "expected.txt"], 1, [grown]

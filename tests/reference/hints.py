@@ -50,7 +50,7 @@ UNCONFIRMED = "EXPECTED is not what the TPM signed: give the values read with th
 BY_HCRTM = "LOG has an H-CRTM event, which means that PCR 0 started at 4: add --hcrtm, with which less differs"
 ONLY_SHA1 = ("PCR {} is required only in the SHA-1 bank: anyone who can make collisions can make another log or list with its value; require another "
              "bank too, if there is one")
-PADDED = "a kernel before 5.8 extended it with zero-padded SHA-1 digests, "
+PADDED = "a kernel before 5.8 extended it with zero-padded SHA-1 digests, or "
 
 # A report without rows, as text.
 BARE_MATCH = re.compile(rb"(?:events \d+ locality \d+\n)?entries \d+\n(?:boot_aggregate good\n)?verdict match\n|match: 0 of 0 PCRs agree, [^\n]*\n")
@@ -198,7 +198,8 @@ def lines_on(command, seen, counts):
         yield AGGREGATES[seen.aggregate]
     elif of_list:
         older = "" if of_list.algorithm is SHA1 else PADDED
-        yield f"{of_list.algorithm.name} PCR 10 differs: it was read at a different time than LIST, {older}or an entry is missing or was changed"
+        again = "read it and LIST again at the same time; if it still differs, "
+        yield f"{of_list.algorithm.name} PCR 10 differs: {again}{older}an entry is missing or was changed"
     if seen.beside == "unconfirmed" or seen.beside == "not given" and not counts:
         yield UNCONFIRMED if seen.beside == "unconfirmed" else NOT_GIVEN
     for word, number, register in seen.strays:

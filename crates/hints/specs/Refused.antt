@@ -7,7 +7,6 @@ use Rattle.agent_plans.specs.declared.plan.ConfirmedBy.{ConfirmedBy}
 use Rattle.agent_plans.specs.declared.plan.ConfirmedBy.TheVariants as confirmed
 use Rattle.agent_plans.specs.declared.plan.ComparisonKind.{ComparisonKind}
 use Rattle.agent_plans.specs.declared.plan.ComparisonKind.TheVariants as kinds
-use Rattle.agent_plans.specs.declared.plan.Query.{Query}
 use Rattle.agent_plans.specs.declared.plan.Query.TheVariants as queries
 use Rattle.agent_plans.specs.declared.plan.Quoting.{Quoting}
 use Rattle.agent_plans.specs.declared.plan.Task.{Task}
