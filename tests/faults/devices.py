@@ -32,7 +32,7 @@ sys.path[:0] = [str(HERE.parent), str(HERE.parent / "cases"), str(HERE)]
 
 import harness  # noqa: E402
 from answers import answer_of, saved_by  # noqa: E402
-from said import ADVICE, NOT_WRITTEN, shown  # noqa: E402
+from said import ADVICE, NOT_WRITABLE, NOT_WRITTEN, shown  # noqa: E402
 from reference.hints import next_steps  # noqa: E402
 from sweep import check_runs, command_runs, is_explained  # noqa: E402
 
@@ -104,7 +104,8 @@ def is_told(found, wanted, name, run):
         line = json.dumps({"fault": {"kind": kind, "message": line[:-1].decode()}}, separators=(",", ":"), ensure_ascii=False).encode() + b"\n"
     status, text, errors = found
     before = text.removesuffix(line)
-    is_said = status == FAILED and errors == b"cannot %s %s\n" % (kind.encode(), name)
+    said = b"cannot %s %s\n" % (kind.encode(), b"standard input" if name == b"-" else shown(name))
+    is_said = status == FAILED and errors == said + (shown(NOT_WRITABLE) + b"\n" if kind == "write" else b"")
     return is_said and text != before and (not before or not is_explained(command) and is_read_before(before, wanted[1], words))
 
 
@@ -130,9 +131,9 @@ def is_read_before(text, wanted, words):
 
 
 def is_cut(found, wanted, _name, run):
-    """Whether an answer is a prefix of the one wanted, and no more, and this is said."""
+    """Whether an answer is a prefix of the one wanted, and no more, and this is said, or what is wrong, whose line could not be written."""
     status, text, errors = found
-    is_due = errors == NOT_WRITTEN
+    is_due = errors == NOT_WRITTEN or wanted[0] > 1 and errors == wanted[2]
     return status == FAILED and is_due and text != wanted[1] and wanted[1].startswith(text)
 
 

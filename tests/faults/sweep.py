@@ -158,6 +158,8 @@ def kind_of(command, folder):
 
 def command_runs(program, folder):
     """A run of a command of each kind; and what is wrong with cases."""
+    if not program.is_file():
+        raise FileNotFoundError(program)
     shared, runs, faults = form.read_shared(), {}, []
     for number, path in enumerate(form.case_files()):
         try:
