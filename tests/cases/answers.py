@@ -9,6 +9,7 @@ from pathlib import Path
 from typing import Optional
 
 import form
+from reference.hints import NO_EXPECTED
 from said import OUT_OF_MEMORY, is_heard, is_of_usage, said_of_end
 
 SECONDS = 60
@@ -43,7 +44,8 @@ def fault_of(command, answer, folder, is_short_of_memory=False):
     errors = unexplained(command, answer, folder, is_short_of_memory)
     left = output_left(answer.output, command.output, folder) if command.output else answer.output.read_bytes()
     lines, unsaved = lines_of(left + errors), unsaved_of(command, folder)
-    if answer.status == command.status and agrees(command.wanted, lines) and not unsaved:
+    is_silent = is_short_of_memory and not errors and command.wanted[-1:] == [NO_EXPECTED]  # (this was to be said beside an answer)
+    if answer.status == command.status and agrees(command.wanted[:-1] if is_silent else command.wanted, lines) and not unsaved:
         return None
     lines += unsaved
     more = [f"({len(lines) - MOST_LINES} lines more)"] if len(lines) > MOST_LINES else []
@@ -55,7 +57,7 @@ def unexplained(command, answer, folder, is_short_of_memory):
     """What an answer says on standard error beside its error in words. If these are not those that are due, all of it, with what is due."""
     if answer.status is None or answer.status < 2 or not is_heard(command.words):
         return answer.errors
-    given = (folder / command.input).read_bytes() if command.input and answer.status != 3 else b"" if command.input else None
+    given = given_to(command, folder, answer.status)
     due = said_of_end(command.words, answer.status, answer.output.read_bytes(), folder, given)
     if due is None:
         is_due = is_of_usage(answer.errors)
@@ -64,6 +66,11 @@ def unexplained(command, answer, folder, is_short_of_memory):
     if is_due or is_short_of_memory and answer.errors == OUT_OF_MEMORY:
         return b""
     return answer.errors + b"(not on standard error: %r)\n" % due
+
+
+def given_to(command, folder, status=2):
+    """The bytes on standard input, if that is a file; no bytes, if the command ended with status 3."""
+    return (folder / command.input).read_bytes() if command.input and status != 3 else b"" if command.input else None
 
 
 def output_left(output, name, folder):

@@ -41,7 +41,7 @@ import calls  # noqa: E402
 import form  # noqa: E402
 import harness  # noqa: E402
 import reference  # noqa: E402
-from answers import answer_of, fault_of  # noqa: E402
+from answers import answer_of, fault_of, given_to  # noqa: E402
 import said  # noqa: E402
 from calls import REFUSED, TEST  # noqa: E402
 from reference.command_line import COMMANDS, HelpAsked, asks_for_help, asks_for_version, read_arguments  # noqa: E402
@@ -106,6 +106,14 @@ class CommandRun:
         """The answers of which one is due out of memory: with `--json` the plain one while the arguments are read."""
         return (OUT_OF_MEMORY, OUT_OF_MEMORY_AS_JSON) if "--json" in self.command.words else (OUT_OF_MEMORY,)
 
+    def lacks_line(self, found):
+        """Whether an answer is that of a fault whose words were said, and whose line as JSON lacked memory."""
+        if self.command.status < 2 or "--json" not in self.command.words or found[:2] != OUT_OF_MEMORY_AS_JSON[:2]:
+            return False
+        text = "".join(f"{line}\n" for line in self.command.wanted).encode()
+        due = said.said_of_end(self.command.words, self.command.status, text, self.folder, given_to(self.command, self.folder))
+        return said.is_of_usage(found[2]) if due is None else found[2] == due
+
     def output_of_memory(self, output):
         """What is due out of memory, of an output: of a list's lines, or a log's lines of JSON or of events that are explained, the last, if
         those before it are the first that the case wants."""
@@ -122,7 +130,8 @@ class CommandRun:
         with tempfile.TemporaryDirectory() as name:
             answer = answer_of(self.program, self.command, self.folder, Path(name, "output"), settings)
             output = self.output_of_memory(answer.output.read_bytes())
-            if met.exists() and (answer.status, output, answer.errors) in self.wants_of_memory():
+            found = answer.status, output, answer.errors
+            if met.exists() and (found in self.wants_of_memory() or self.lacks_line(found)):
                 return None
             return fault_of(self.command, answer, self.folder, is_short_of_memory=met.exists())
 
