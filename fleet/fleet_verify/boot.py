@@ -164,10 +164,10 @@ class Boot:
 
     @property
     def look(self) -> str:
-        """As what the verdict is shown: a match by a quote, one that nobody signed, or no match."""
+        """As what the verdict is shown: a match of all by a quote, one that nobody signed or that is not of the whole list, or no match."""
         if self.word != "match" or self.faults:
             return ""
-        return "match" if self.report.get("signature") == "valid" else "unquoted"
+        return "match" if self.report.get("signature") == "valid" and not self.judgement.is_on_prefix else "unquoted"
 
     @property
     def unread(self) -> List[Input]:

@@ -175,6 +175,8 @@ def unread(name, folder, takes_only_files):
     """That the file of this name cannot be read, and what the system says why, if it still says so; or that it is no regular file."""
     if takes_only_files and name and (folder / name).exists() and not (folder / name).is_file():
         return f"cannot read {name}: it is not a regular file: copy it to one"
+    if name == "-":
+        return "cannot read -: here it is the name of a file: give /dev/stdin for standard input"
     place = os.open(folder, os.O_RDONLY)
     try:
         file = os.open(name, os.O_RDONLY, dir_fd=place)
@@ -197,6 +199,8 @@ def fault_line_of(words, text):
     if text.startswith((b"refused: ", b"failed: ")):
         return text[:-1]
     last = text.splitlines()[-1] if words[:1] in (["show"], ["events"]) and text else text
+    if "--partial" in words and last.startswith((b"refused: ", b"failed: ")):
+        return last
     return json.loads(last)["fault"]["message"].encode() if last.startswith(b'{"fault":') else None
 
 

@@ -43,11 +43,13 @@ CONTENT = "content"
 EXAMPLE = re.compile(r"^    (\{.*\})$", re.MULTILINE)
 TABLE = re.compile(r"^(\|.*\| Member \|)\n\|[-|]*\n((?:\|.*\n)*)", re.MULTILINE)
 # How the last line of a report begins, by the parts of docs/reports.txt; the part of each command; a form of a line there, and what its words are.
-ENDS = {"verify": ("verdict ", "signature not checked"), "locate": ("located", "not located")}
+SUMMARY = "With --summary"
+ENDS = {"verify": ("verdict ", "signature not checked"), SUMMARY: ("match: ", "differ: ", "no verdict: "), "locate": ("located", "not located")}
 REPORTS = {"verify": "verify", "attest": "verify", "replay": "verify", "locate": "locate"}
 FORM = re.compile(r"^  (\S.*?)(?:  |$)", re.MULTILINE)
 LEFT_OUT = "..."
-WORDS = {"BANK": "sha(?:1|256|384|512)", "HEX": r"[0-9a-f]*(?:\.\.\.)?", "LINE": r"\S.*", "STATE": "(?:un)?safe", "R..": r"\d+(?: \d+)*"}
+WORDS = {"BANK": "sha(?:1|256|384|512)", "HEX": r"[0-9a-f]*(?:\.\.\.)?", "LINE": r"\S.*", "STATE": "(?:un)?safe", "R..": r"\d+(?: \d+)*", "REASON;": "[^;]+;",
+         "COUNTS": r"\d+ of \d+ PCRs agree, (?:\d+ entr(?:y|ies)|\d+ of \d+ entries judged)(?:, \d+ unknown)?"}
 # The definition for each layout of event data.
 LAYOUTS = {"A command": "command_data", "A variable": "variable", "An image": "image_data", "A partition table": "gpt", "A partition": "partition",
            "A blob, or a described one": "blob", "A tagged event": "tagged", "A load option": "load_option", "A signature": "signature",
@@ -136,7 +138,7 @@ def reports_of_cases():
     """The part of docs/reports.txt for each report that a case shows as text, the case, and the lines of the report that are shown."""
     for case in map(form.read_case, form.case_files()):
         for command in case.commands:
-            part = REPORTS.get(command.words[0] if command.words else None)
+            part = SUMMARY if "--summary" in command.words else REPORTS.get(command.words[0] if command.words else None)
             if part and command.wanted and command.wanted[-1].startswith(ENDS[part]):
                 yield part, f"{case.name}:{command.line}", [line for line in command.wanted if line != LEFT_OUT]
 

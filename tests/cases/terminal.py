@@ -32,6 +32,7 @@ from typing import NamedTuple
 sys.path.insert(0, str(Path(__file__).resolve().parents[1]))
 import form  # noqa: E402
 import harness  # noqa: E402
+import reference  # noqa: E402
 from answers import Answer, fault_of  # noqa: E402
 from reference.faults import Fault  # noqa: E402
 from reference.hints import (  # noqa: E402
@@ -126,8 +127,8 @@ int clock_gettime(clockid_t clock, struct timespec *now) {
 MORE = "\nFor more information, try '--help'.\n"
 REQUIRE, REGISTERS, NONCE = "--require <SELECTION>", "--registers <SELECTION>", "--nonce <HEX>"
 GRAMMAR = "items, separated by , or +: [BANK:]PCR, [BANK:]FIRST-LAST or [BANK:]all. An item without BANK uses the previous item's"
-UNBOUND = "PCR 10 is not selected in any bank, so the list would not be checked: add it, as in sha256:0-10"
-SHORT_NONCE = "a nonce has at least 16 bytes, which is 32 hexadecimal digits"
+UNBOUND = "PCR 10 is not selected in any bank, so the list would not be checked: add it, as in sha256:0-10, or sha256:10 for a list alone"
+SHORT_NONCE = "a nonce has at least 16 bytes, which is 32 hexadecimal digits: give all of the nonce that was sent"
 UNQUOTED = "PCR {} is not selected in any bank: a quote needs PCRs 0 to 10, as in sha256:0-10"
 WEAK = "PCR {} is selected only in the SHA-1 bank, which can be forged: require another bank, or add --sha1"
 
@@ -147,7 +148,7 @@ USAGES = [
     *((["events", "--explain", other, "L"], f"error: the argument '--explain' cannot be used with '{other}'\n") for other in ("--data", "--json")),
     *((["events", *more, "--expected", "E", "L"],
        "error: the argument '--expected <EXPECTED>' cannot be used without '--explain' or '--json'\n") for more in ([], ["--data"])),
-    *(([*words, "--known", "K"], "error: the argument '--known <FILE>' cannot be used without '--require'\n")
+    *(([*words, "--known", "K"], "error: the argument '--known <FILE>' cannot be used without '--require', such as --require sha256:0-10\n")
       for words in (["verify", "L", "M", "N"], ["replay", "L", "M"], ["replay", "L"])),
     (["key", "--print", "ascii", "L"],
      f"error: invalid value 'ascii' for '--print <PART>'\n  [possible values: all, name, pem]\n{MORE}"),
@@ -200,7 +201,7 @@ USAGES = [
       for command in (["boot"], ["events", "--json"], ["events"])),
     (["boot", "--signature", "S", "L"], "error: the argument '--signature <SIG>' cannot be used without '--quote'\n"),
     (["boot", "--old-kernel", "L"], "error: the argument '--old-kernel' cannot be used without '--quote'\n"),
-    (["verify", "--old-kernel", "L", "M", "E"], "error: the argument '--old-kernel' cannot be used without '--require'\n"),
+    (["verify", "--old-kernel", "L", "M", "E"], "error: the argument '--old-kernel' cannot be used without '--require', such as --require sha256:0-10\n"),
     (["attest", "--nonce", "00", "L", "M", "Q"],
      f"error: the following required arguments were not provided:\n  {REQUIRE}\n\n"
      f"Usage: ima-agent attest {NONCE} {REQUIRE} <LOG> <LIST> <QUOTE> [EXPECTED]\n{MORE}"),
@@ -363,7 +364,7 @@ def further_commands():
                   lambda: give("."))
     yield Command("standard input of list without an end", ["list", "-"],
                   Ended(2, b"refused: too long -\n", endless), lambda: give("/dev/zero"))
-    yield Command("a file of the name of standard input", ["show", "-"], Ended(3, b"failed: read -\n", b"cannot read -: No such file or directory\n"))
+    yield Command("a file of the name of standard input", ["show", "-"], Ended(3, b"failed: read -\n", b"cannot read -: here it is the name of a file: give /dev/stdin for standard input\n"))
     yield Command("a folder", ["show", "."], Ended(3, b"failed: read .\n", b"cannot read .: Is a directory\n"))
     for title, settle in (
         ("a full device", fill_output), ("a pipe that nobody reads", break_output), ("no standard output", lambda: os.close(1)),
@@ -380,8 +381,8 @@ def hinted_commands():
     changed, lacks = f"sha256 PCR 4 differs: {OTHER_BOOT}", "EXPECTED lacks {} PCR {}: read it with the others"
     grown = ("PCR 10 covers the first 99 of 100 entries: the list grew after PCR 10 was read; collect again, or add --prefix to judge only the "
              "first 99")
-    earlier = ("sha256 PCR 10 differs: it was read at a different time than LIST, a kernel before 5.8 extended it with zero-padded SHA-1 digests, "
-               "or an entry is missing or was changed")
+    earlier = ("sha256 PCR 10 differs: read it and LIST again at the same time; if it still differs, a kernel before 5.8 extended it with zero-padded "
+               "SHA-1 digests, or an entry is missing or was changed")
     other = AGGREGATES["wrong"]
     yield "all matches", ["verify", "--require=sha256:0-10", *judged], 0, []
     yield "a list that grew", ["verify", "firmware.log", "longer.list", "expected.txt"], 1, [grown]
@@ -432,7 +433,7 @@ def hinted_commands():
         earlier, eleven, changed.replace("PCR 4", "PCR 11")]
     yield "where a value of the log is", ["locate", "firmware.log", "ima.list", "changed.txt"], 1, [
         f"sha256 PCR 4 never has the expected value: {OTHER_BOOT}"]
-    sha1 = re.sub("a kernel .* digests, ", "", earlier.replace("sha256", "sha1"))
+    sha1 = re.sub("a kernel .* digests, or ", "", earlier.replace("sha256", "sha1"))
     yield "another value of SHA-1", ["replay", "ima.list", "sha1.ten.txt"], 1, [sha1]
     unknown = ("entry 93 is the first that matches no known digest: ima-agent show names its file; compare that with the file in its package")
     yield "files that are not known", ["verify", "--require=sha256:0-10", "--known=known", *judged], 1, [unknown]
@@ -456,6 +457,23 @@ def hinted_commands():
     links = [f"link to {name}" for name in ("firmware.log", "longer.list", "expected.txt")]
     yield "a list that grew, by links", ["verify", *links], 1, [grown]
     yield "a quoted list that grew, by links", ["attest", *quoted, "--require=sha256:0-10", *links[:2], "link to quote.msg"], 1, [grown]
+
+
+def shown_commands():
+    """Commands that leave nothing but their output on a terminal, and those that leave the same in a file."""
+    verified = ["firmware.log", "ima.list", "expected.txt"]
+    quoted = ["--quiet", "--nonce", NONCE_GIVEN, "--require", "sha256:0-10", "firmware.log", "ima.list", "quote.msg", "expected.txt"]
+    judged = (["verify", *verified], ["verify", "--quiet", "firmware.log", "ima.list", "changed.txt"], ["verify", "--", *verified],
+              ["verify", "--quiet", "--prefix", "--require", "sha256:0-10", "firmware.log", "longer.list", "expected.txt"],
+              ["replay", "--quiet", "ima.list", "expected.txt"], ["replay", "ima.list"], ["attest", *quoted])
+    for command, *rest in judged:
+        yield [command, *rest], [command, "--terminal", *rest]
+        yield [command, "--terminal", *rest], [command, "--terminal", *rest]
+        yield [command, "--json", *rest], [command, "--json", *rest]
+        if rest != ["ima.list"]:
+            yield [command, "--summary", *rest], [command, "--summary", *rest]
+    for words in (["show", "ima.list"], ["locate", "--quiet", *verified], ["registers", "firmware.log"], ["verify", "--quiet", "--summary", "firmware.log"]):
+        yield words, words
 
 
 def mistaken_commands():
@@ -871,6 +889,18 @@ class Further(harness.TestCase):
         found = run_on_terminal(["show", "none"], self.room, subprocess.DEVNULL, subprocess.DEVNULL, lambda: os.dup2(2, 1))
         wanted = (3, b"failed: read none\ncannot read none: No such file or directory\n")
         self.check("a refusal, all on one terminal", found, wanted)
+
+    def test_looks(self):
+        """Where the output is a terminal, a report has PCRs at reset last, unless another form is asked for."""
+        make_samples(self.room)
+        for words, like in shown_commands():
+            found = run_on_terminal(words, self.room, subprocess.DEVNULL, subprocess.DEVNULL, lambda: os.dup2(2, 1))
+            self.check(f"{words}, its output on a terminal", found, reference.answer(like, self.room))
+        names = "<LOG> <LIST> <EXPECTED>"
+        lacking = "".join(f"  {name}\n" for name in names.split())
+        text = f"error: the following required arguments were not provided:\n{lacking}\nUsage: ima-agent verify {names}\n{MORE}"
+        found = run_on_terminal(["verify"], self.room, subprocess.DEVNULL, subprocess.DEVNULL, lambda: os.dup2(2, 1))
+        self.check("a refusal, all on one terminal, of the arguments as they were given", found, (2, b"refused: command line\n" + text.encode()))
 
     def test_pace(self):
         """Measurements of pipes show each number in turn, from 1 on, after more than a second, and none before."""

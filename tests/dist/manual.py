@@ -25,7 +25,7 @@ SHARED = "Shared options"
 PAGES = {"attest.md", "errors.txt", "json.md", "layouts.txt", "reports.txt", "schema.json"}
 RESULTS = re.compile(r"^enum ima_verify_result \{.*?^\};", re.MULTILINE | re.DOTALL)
 DEFINED = re.compile(r"^#define (IMA_VERIFY_\w+)", re.MULTILINE)
-MOST_LINES = 40  # (of a command's help)
+MOST_LINES = 44  # (of a command's help)
 # An option in the help of a command in Python, and its default.
 PYTHONS = re.compile(r"^  (?:-(?P<short>\w), )?--(?P<name>[a-z0-9-]+)(?: (?P<value>[A-Z_]+))?(?: {2,}(?P<help>\S.*))?$")
 DEFAULT = re.compile(r"\(default: ([\w-]+)")

@@ -20,7 +20,7 @@ import harness  # noqa: E402
 # The crates whose calls take memory by themselves: those above are reached by commands, of which `sweep.py` runs each kind.
 LIBRARIES = ("byte_streams", "tpm_keys", "signed_messages", "boot_log", "log_imports", "ima_list", "measure_book", "hash_workers", "pcr_values",
              "boot_verdict", "known_files", "list_imports", "growing_lists", "attestations", "agent_inputs")
-WITH_DEVICES = (*LIBRARIES, "event_lines", "answers", "ima_agent")
+WITH_DEVICES = (*LIBRARIES, "terminal_colors", "event_lines", "answers", "ima_agent")
 REFUSED = "each_allocation_refused"
 SWEEPS = ("tests/faults/sweep.py:test_allocations", "tests/faults/library.py:test_allocations")
 # How many groups of tests a row has, by what it begins with.

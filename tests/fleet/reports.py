@@ -176,8 +176,8 @@ def judged(page):
     (look,) = [each.attributes["class"] for each in page.all("div") if each.attributes.get("class", "").split()[:1] == ["state"]]
     verdict = re.search(r"Verdict: (\w+)", text)[1]
     is_unsigned = verdict == "match" and "Not quoted: nobody signed the expected PCRs." in text
-    looks = (BAD, UNSIGNED if is_unsigned else SIGNED)
     is_part, title = verdict == "match" and "Nothing confirms what follows." in text, next(page.all("title")).text
+    looks = (BAD, UNSIGNED if is_unsigned or is_part else SIGNED)
     begins = f"{verdict}{', not quoted' if is_unsigned else ''}{', not the whole list' if is_part else ''}: "
     found = (NOBODY in text, "not the whole list" in text, title.startswith(begins), is_good, look in looks)
     assert found == (is_unsigned, is_part, True, look != BAD, True), (verdict, look, found)
@@ -659,7 +659,7 @@ def test_prefixes(tools, folder):
         title = f"a prefix, of {call[0].name}, {len(call)} arguments"
         text, paragraphs = state_of(page)[0], [each.text for each in page.all("p")]
         told = (f"The verdict covers {first}. Nothing confirms what follows." in text, f"PCR 10 covers {first}." in paragraphs)
-        tools.check(title, (status, judged(page), told), (0, ("match", SIGNED if "--key" in call else UNSIGNED), (True, True)))
+        tools.check(title, (status, judged(page), told), (0, ("match", UNSIGNED), (True, True)))
         booted, events, entries, _ = confirmed_in(whole)
         tools.check(f"{title}: confirmed", confirmed_in(page)[:3], (booted, events, entries) if is_confirming else ([], [], entries))
         denied = [each for each in paragraphs if each.startswith("No event is confirmed")]

@@ -9,7 +9,21 @@ from .measurement_list import IMA_REGISTER, read_list, read_prefix
 from .quotes import Quote, QuoteFault, read_quote
 from .registers import ALGORITHMS, REGISTERS, SHA1
 from .texts import read_expected, read_requirement
-from .verdict import GOOD, Report, Rule, boot_aggregate_state, confirmed_prefix, prefix_report, report_at, strays_in
+from .verdict import (
+    GOOD,
+    NO_ENTRIES,
+    STRAYS,
+    UNBOUND,
+    UNKNOWN,
+    Report,
+    Rule,
+    boot_aggregate_state,
+    confirmed_prefix,
+    prefix_report,
+    report_at,
+    strays_in,
+    summary_line,
+)
 
 LEAST_NONCE = 16
 # What is known of a quote's signature, in the words of a report: nothing, that the caller verified it, or that it was verified here.
@@ -126,9 +140,9 @@ class AttestReport(NamedTuple):
         """The report where these entries are not known, or None without known files."""
         return self._replace(report=self.report.looked_at(unknown))
 
-    def text(self):
+    def text(self, for_terminal=False):
         quote, word = self.quote, "match" if self.is_quoted else "differ"
-        *lines, verdict = self.report.text().splitlines()
+        *lines, verdict = self.report.text(for_terminal).splitlines()
         after = next(number for number, line in enumerate(lines, 1) if line.startswith("boot_aggregate "))
         lines[after:after] = [f"expected {word}" for word in self.expected]
         stated = [f"quoted {bank} {' '.join(map(str, registers))}" for bank, registers in self.banks().items()]
@@ -137,6 +151,20 @@ class AttestReport(NamedTuple):
         stated += [f"firmware {quote.firmware}"]
         concluded = [f"quote {word}", *(["signature valid"] if self.signature == VALID else []), verdict if self.is_signed else "signature not checked"]
         return "".join(f"{line}\n" for line in [*stated, *lines, *concluded])
+
+    def summary(self):
+        """The report in one line."""
+        report, selected = self.report, len(set(self.quote.selected))
+        entries = report.counts["entries"]
+        reasons = [
+            (not self.is_signed, "nobody checked the signature"),
+            (not self.is_quoted, "the quote has other PCR values"),
+            (report.counts["boot_aggregate"] not in GOOD, UNBOUND if entries else NO_ENTRIES),
+            (report.strays, STRAYS),
+            (report.unknown and report.unknown.numbers, UNKNOWN),
+        ]
+        against = [] if self.matches else [words for holds, words in reasons if holds][:1]
+        return summary_line(report.word if self.is_signed else "no verdict", against, selected if self.is_quoted else 0, selected, report)
 
     def as_json(self):
         """The report as JSON."""

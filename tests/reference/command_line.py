@@ -66,8 +66,14 @@ ONLY_BESIDE_QUOTE = {**BESIDE_QUOTE, "--sha1": Option(FLAG, False), OLD_KERNEL: 
 # What tells which data of a log is confirmed.
 CONFIRMING = {"--expected": Option(str, None), "--quote": Option(str, None), **ONLY_BESIDE_QUOTE}
 
+# When a report has colours.
+COLOR = {"--color": Option(one_of("auto", "always", "never"), "auto")}
+
 # Whether the H-CRTM event of a log tells where the machine started.
 HCRTM = {"--hcrtm": Option(FLAG, False)}
+
+# How a verdict is shown as text, if not by the plain report.
+LOOKS = {"--summary": Option(FLAG, False), "--terminal": Option(FLAG, False)}
 
 COMMANDS = {
     "measure": Command(1, None, {
@@ -90,6 +96,8 @@ COMMANDS = {
         "--save": Option(str, None),
         "--resume": Option(str, None),
         EXPLAIN: Option(FLAG, False),
+        **LOOKS,
+        **COLOR,
         "--json": Option(FLAG, False),
     }),
     "attest": Command(3, 4, {
@@ -104,9 +112,11 @@ COMMANDS = {
         "--save": Option(str, None),
         "--resume": Option(str, None),
         EXPLAIN: Option(FLAG, False),
+        **LOOKS,
+        **COLOR,
         "--json": Option(FLAG, False),
     }),
-    "locate": Command(3, 3, {**HCRTM, "--require": Option(str, None), EXPLAIN: Option(FLAG, False), "--json": Option(FLAG, False)}),
+    "locate": Command(3, 3, {**HCRTM, **COLOR, "--require": Option(str, None), EXPLAIN: Option(FLAG, False), "--json": Option(FLAG, False)}),
     "expected": Command(1, 1, {"--registers": Option(str, "all"), "--json": Option(FLAG, False)}),
     "key": Command(1, 1, {
         "--endorsement": Option(FLAG, False),
@@ -127,13 +137,15 @@ COMMANDS = {
         "--before": Option(str, None),
         "--json": Option(FLAG, False),
     }),
-    "show": Command(1, 1, {"--json": Option(FLAG, False)}),
+    "show": Command(1, 1, {"--partial": Option(FLAG, False), "--json": Option(FLAG, False)}),
     "list": Command(1, 1, {}),
     "log": Command(1, 1, {}),
     "replay": Command(1, 2, {
         "--require": Option(str, None),
         KNOWN: Option(str, [], is_repeated=True),
         EXPLAIN: Option(FLAG, False),
+        **LOOKS,
+        **COLOR,
         "--json": Option(FLAG, False),
     }),
 }
@@ -164,7 +176,7 @@ def read_words(words):
     names, values = read_arguments(command, rest)
     if len(names) < command.fewest_names or lacks_another(name, names, values) or lacks_required(command, values):
         raise USAGE
-    if is_json_of_binary(values) or (name == "events" and has_wrong_pair(values)) or not is_hexadecimal(values.get("--nonce", "")):
+    if is_json_of_binary(values) or is_shown_twice(values) or (name == "events" and has_wrong_pair(values)) or not is_hexadecimal(values.get("--nonce", "")):
         raise USAGE
     if (name in ("events", "boot") and has_wrong_quote(values)) or has_wrong_signing(values):
         raise USAGE
@@ -179,7 +191,7 @@ def lacks_another(command, names, values):
     if not {KNOWN, OLD_KERNEL}.isdisjoint(values) and "--require" not in values:
         return True
     if command == "replay":
-        return len(names) < 2 and not {"--require", EXPLAIN}.isdisjoint(values)
+        return len(names) < 2 and not {"--require", EXPLAIN, "--summary"}.isdisjoint(values)
     return "--null" in values and "--files-from" not in values
 
 
@@ -196,6 +208,11 @@ def is_hexadecimal(text):
 def is_json_of_binary(values):
     """Whether the binary list shall be JSON, which it never is."""
     return "--json" in values and values.get("--print") == "binary"
+
+
+def is_shown_twice(values):
+    """Whether a verdict shall be shown in two ways."""
+    return sum(look in values for look in ("--json", *LOOKS)) > 1
 
 
 def has_wrong_pair(values):

@@ -50,10 +50,10 @@ UNCONFIRMED = "EXPECTED is not what the TPM signed: give the values read with th
 BY_HCRTM = "LOG has an H-CRTM event, which means that PCR 0 started at 4: add --hcrtm, with which less differs"
 ONLY_SHA1 = ("PCR {} is required only in the SHA-1 bank: anyone who can make collisions can make another log or list with its value; require another "
              "bank too, if there is one")
-PADDED = "a kernel before 5.8 extended it with zero-padded SHA-1 digests, "
+PADDED = "a kernel before 5.8 extended it with zero-padded SHA-1 digests, or "
 
 # A report without rows, as text.
-BARE_MATCH = re.compile(rb"(?:events \d+ locality \d+\n)?entries \d+\n(?:boot_aggregate good\n)?verdict match\n")
+BARE_MATCH = re.compile(rb"(?:events \d+ locality \d+\n)?entries \d+\n(?:boot_aggregate good\n)?verdict match\n|match: 0 of 0 PCRs agree, [^\n]*\n")
 
 EMPTY = "it is empty: copy the kernel's files with cat, since the kernel reports their size as 0"
 NOTHING_PRINTED = "it is empty: the tool printed nothing"
@@ -66,7 +66,7 @@ LIST_FOR_TEXT = "it is the binary list, which needs no conversion: give it to th
 PRINTED_FOR_EXPECTED = "it is tpm2-tools output: convert it to EXPECTED with ima-agent expected"
 EXPECTED_FOR_PRINTED = "it is EXPECTED already: give it to ima-agent verify as it is"
 CAPITALS = "its banks are in capital letters: write sha256, not SHA256"
-PEM_FOR_AREA = "it is PEM text: give the public area as tpm2_createak -u writes it"
+PEM_FOR_AREA = "it is PEM text: give the public area as tpm2_createak -u writes it, or this text to attest --key"
 BANKS = tuple(f"{name} ".encode() for name in BY_NAME)
 PRINTED = (b"  sha", b"  sm3", b"pcrs:", b"sha1:", b"sha256:", b"sha384:", b"sha512:")
 
@@ -198,7 +198,8 @@ def lines_on(command, seen, counts):
         yield AGGREGATES[seen.aggregate]
     elif of_list:
         older = "" if of_list.algorithm is SHA1 else PADDED
-        yield f"{of_list.algorithm.name} PCR 10 differs: it was read at a different time than LIST, {older}or an entry is missing or was changed"
+        again = "read it and LIST again at the same time; if it still differs, "
+        yield f"{of_list.algorithm.name} PCR 10 differs: {again}{older}an entry is missing or was changed"
     if seen.beside == "unconfirmed" or seen.beside == "not given" and not counts:
         yield UNCONFIRMED if seen.beside == "unconfirmed" else NOT_GIVEN
     for word, number, register in seen.strays:

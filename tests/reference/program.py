@@ -186,6 +186,14 @@ def told_of(told, is_well=True):
     return Told(told.text, lambda: [told.as_json()], 0 if is_well else 1)
 
 
+def verdict_of(report, values, status):
+    """The same of a report, as these options have it shown."""
+    told = told_of(report)._replace(status=status)
+    if values["--summary"]:
+        return told._replace(text=report.summary)
+    return told._replace(text=lambda: report.text(values["--terminal"]))
+
+
 def registers_of_hexadecimal(inputs):
     return told_of(read_log(read_hexadecimal(inputs.load_standard_input())).registers())
 
@@ -237,15 +245,16 @@ def boot_command(inputs, values, log):
 
 def show_command(inputs, values, listed):
     data, fault = inputs.opened(listed)()
-    if not values["--json"]:
+    is_sent_as_read = values["--json"] or values["--partial"]
+    if not is_sent_as_read:
         whole(data, fault)
     entries, found = read_prefix(data)
     if found and not (fault and found.number == ListFault.TRUNCATED):
         fault = found
-    if fault and not values["--json"]:
+    if fault and not is_sent_as_read:
         raise fault
     ended = fault.as_json() if fault else {"entries": len(entries)}
-    return Told(lambda: list_text(entries), lambda: [*entry_values(entries), ended], fault.status if fault else 0)
+    return Told(lambda: list_text(entries) + (f"{fault.line}\n".encode("utf-8", "surrogateescape") if fault else b""), lambda: [*entry_values(entries), ended], fault.status if fault else 0)
 
 
 def replay_command(inputs, values, listed, expected=None):
@@ -258,7 +267,7 @@ def replay_command(inputs, values, listed, expected=None):
     known = known_by(inputs, values)
     entries = list_of(*inputs.opened(listed)())
     report = list_report(entries, expected, required).looked_at(unknown_entries(known, entries, 0))
-    return told_of(report, report.matches)
+    return verdict_of(report, values, 0 if report.matches else 1)
 
 
 def required_by(values):
@@ -340,7 +349,7 @@ def verify_command(inputs, values, log, listed, expected):
         if not end.leaves_room:
             raise MEMORY
     save_if_it_matches(inputs, values, report, end._replace(boot=None).text())
-    return told_of(report, report.matches)
+    return verdict_of(report, values, 0 if report.matches else 1)
 
 
 def signature_of(inputs, values, message):
@@ -375,7 +384,7 @@ def attest_status(report):
 def attest_command(inputs, values, log, listed, message, expected=None):
     report = report_by_quote(inputs, values, lambda: replayed(values, inputs.load(log)), listed, message, expected)
     save_if_it_matches(inputs, values, report, report.next)
-    return told_of(report)._replace(status=attest_status(report))
+    return verdict_of(report, values, attest_status(report))
 
 
 def is_growing(values):

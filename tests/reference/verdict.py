@@ -14,6 +14,9 @@ from .registers import ALGORITHMS, REGISTERS, Registers
 OLD_KERNEL = "old_kernel"
 # The states of a boot aggregate with which a list may match.
 GOOD = ("good", OLD_KERNEL)
+MATCH = ("match",)
+# The PCRs whose reset value has all bits set; that of others is zero.
+ONES_AT_RESET = range(17, 23)
 
 
 class Report(NamedTuple):
@@ -36,8 +39,10 @@ class Report(NamedTuple):
     def word(self):
         return "match" if self.matches else "differ"
 
-    def text(self):
+    def text(self, for_terminal=False):
+        """The report's lines; for a terminal those of PCRs at reset come after the others, and say so."""
         counts = dict(self.counts)
+        resting = [each for each in self.rows if for_terminal and is_at_reset(*each)]
         lines = [f"events {counts.pop('events')} locality {counts.pop('locality')}"] if "events" in counts else []
         entries, confirmed, unconfirmed = (counts.pop(name, None) for name in ("entries", "confirmed", "unconfirmed"))
         lines.append(f"entries {entries}")
@@ -45,11 +50,32 @@ class Report(NamedTuple):
         lines += [] if unconfirmed is None else [unconfirmed["message"]]
         lines += [] if self.missing is None else [f"compared {len(self.rows)}"]
         lines += [f"{name} {value}" for name, value in counts.items()]
-        lines += [f"{row.algorithm.name} {row.register} {' '.join(state)}" for row, state in self.rows]
+        lines += [f"{row.algorithm.name} {row.register} {' '.join(state)}" for row, state in self.rows if (row, state) not in resting]
         lines += [f"{algorithm.name} {register} missing" for algorithm, register in self.missing or []]
+        lines += [f"{row.algorithm.name} {row.register} match at reset" for row, _ in resting]
         lines += [f"{word} {number} extends {register}" for word, number, register in self.strays]
         lines += self.unknown.lines() if self.unknown else []
         return "".join(f"{line}\n" for line in [*lines, f"verdict {self.word}"])
+
+    def reason(self):
+        """The first reason why the verdict is no match, in words; none if there is none."""
+        entries, aggregate = self.counts["entries"], self.counts.get("boot_aggregate")
+        differing = [(row.algorithm, row.register) for row, state in self.rows if state != MATCH]
+        is_unbound = entries == 0 if aggregate is None else aggregate not in GOOD
+        reasons = [
+            (differing, lambda: f"{in_words(*differing[0])} is not as expected"),
+            (self.missing, lambda: f"{in_words(*self.missing[0])} is required, but not in EXPECTED"),
+            (is_unbound, lambda: UNBOUND if entries else NO_ENTRIES),
+            (self.strays, lambda: STRAYS),
+            (self.unknown and self.unknown.numbers, lambda: UNKNOWN),
+            (not self.rows, lambda: "no PCR was compared"),
+        ]
+        return [] if self.matches else [words() for holds, words in reasons if holds][:1]
+
+    def summary(self):
+        """The report in one line."""
+        matching = sum(state == MATCH for _, state in self.rows)
+        return summary_line(self.word, self.reason(), matching, len(self.rows), self)
 
     def as_json(self):
         """The report as JSON."""
@@ -59,6 +85,33 @@ class Report(NamedTuple):
         told = ({"extends": strays} if strays else {}) | (self.unknown.members() if self.unknown else {})
         before = {name: count for name, count in self.counts.items() if name != "boot_aggregate"}
         return {**before, "compared": len(self.rows), **self.counts, "registers": [*rows, *missing], **told, "verdict": self.word}
+
+
+# Reasons in words.
+UNBOUND = "the list does not record the boot aggregate of the log"
+NO_ENTRIES = "the list is empty"
+STRAYS = "an event extends PCR 10, or an entry another PCR"
+UNKNOWN = "an entry is of no known file"
+
+
+def in_words(algorithm, register):
+    return f"PCR {register} in the {algorithm.name} bank"
+
+
+def summary_line(word, reasons, matching, compared, report):
+    """A verdict in one line: reasons are none or one."""
+    entries = report.counts["entries"]
+    judged = report.counts.get("confirmed", entries)
+    unknown = len(report.unknown.numbers) if report.unknown else 0
+    said = f"{entries} {'entry' if entries == 1 else 'entries'}" if judged == entries else f"{judged} of {entries} entries judged"
+    counts = [f"{matching} of {compared} PCRs agree", said, *([f"{unknown} unknown"] if unknown else [])]
+    return f"{word}: {''.join(f'{reason}; ' for reason in reasons)}{', '.join(counts)}\n"
+
+
+def is_at_reset(row, state):
+    """Whether a PCR matches at its reset value."""
+    byte = b"\xff" if row.register in ONES_AT_RESET else b"\0"
+    return state == MATCH and row.value == byte * len(row.value)
 
 
 def named(algorithm, register, **told):

@@ -5,6 +5,8 @@ pub use Rattle.agent_plans.specs.declared.plan.LogFile.{LogFile}
 use Rattle.agent_plans.specs.declared.plan.Scope.TheVariants.{Whole}
 use Rattle.agent_plans.specs.declared.plan.ConfirmedBy.{ConfirmedBy}
 use Rattle.agent_plans.specs.declared.plan.ConfirmedBy.TheVariants.{Nothing}
+pub use Rattle.agent_plans.specs.declared.plan.Look.{Look}
+use Rattle.agent_plans.specs.declared.plan.Look.TheVariants.{Plain}
 pub use Rattle.agent_plans.specs.declared.plan.DataShown.{DataShown}
 use Rattle.agent_plans.specs.declared.plan.DataShown.TheVariants.{Size, Bytes, Meaning}
 pub use Rattle.cells.specs.declared.writer.Form.{Form}
@@ -37,6 +39,7 @@ whole_verdict log list expected =
       known = None;
       old_kernel = false;
       explained = false;
+      look = Plain;
     }
 
 -- The task that a plan requests, and the form in which its result is shown.
@@ -48,23 +51,23 @@ task_of (plans.Measure alg template workers limit print log files) = (
   forms.Text,
 )
 task_of (plans.Verify log list expected) = (tasks.Answer (queries.Comparison (whole_verdict (plain_log log) list expected)), forms.Text)
-task_of (plans.Show list) = (tasks.Entries list, forms.Text)
+task_of (plans.Show list) = (tasks.Entries list false, forms.Text)
 task_of (plans.Help text) = (tasks.Help text, forms.Text)
 task_of (plans.Task task form) = (task, form)
 
 -- ---- one plan for each
 
 -- The verdict on a log that is replayed as it stands and on a whole list, and nothing more.
-abbrev pub is_plain_verdict : ComparisonKind → Option (String Global) → Option (Vec (String Global)) → Bool → Bool → Bool
-is_plain_verdict (kinds.Verdict log Whole None None) None None false false = not log.hcrtm
-is_plain_verdict kind required known old_kernel explained = false
+abbrev pub is_plain_verdict : ComparisonKind → Option (String Global) → Option (Vec (String Global)) → Bool → Bool → Look → Bool
+is_plain_verdict (kinds.Verdict log Whole None None) None None false false Plain = not log.hcrtm
+is_plain_verdict kind required known old_kernel explained look = false
 
 -- Some other plan than `Task` requests this, as text.
 abbrev pub has_plan : Task → Bool
 has_plan tasks.Registers = true
-has_plan (tasks.Answer (queries.Comparison judge)) = is_plain_verdict judge.kind judge.required judge.known judge.old_kernel judge.explained
+has_plan (tasks.Answer (queries.Comparison judge)) = is_plain_verdict judge.kind judge.required judge.known judge.old_kernel judge.explained judge.look
 has_plan (tasks.Measure request) = not (is_some request.names) && not request.log.hcrtm
-has_plan (tasks.Entries list) = true
+has_plan (tasks.Entries list partial) = not partial
 has_plan (tasks.Help text) = true
 has_plan task = false
 
@@ -72,6 +75,14 @@ has_plan task = false
 abbrev pub IsOneOf : Plan → Type 0
 IsOneOf (plans.Task task forms.Text) = has_plan task ≡ false
 IsOneOf plan = Unit {0}
+
+-- ---- looks
+
+-- How the answer to a question is shown as text: plain, unless it is a verdict that is shown in another way.
+abbrev pub look_of : Query → Look
+look_of (queries.Comparison judge) = judge.look
+look_of (queries.Attestation attest) = attest.look
+look_of question = Plain
 
 -- ---- ranges
 
@@ -106,9 +117,13 @@ abbrev pub NamesKnown : Query → Type 0
 NamesKnown (queries.Comparison judge) = TakesKnown judge.kind judge.required judge.known
 NamesKnown question = Unit {0}
 
+-- As JSON a verdict has no other look than the plain one.
+abbrev pub HasLook : Form → Look → Type 0
+HasLook form look = form ≡ forms.Json → look ≡ Plain
+
 -- What is to be done can be done, and shown in this form: there is no JSON of a file that is converted.
 abbrev pub IsWithin : Form → Task → Type 0
-IsWithin form (tasks.Answer question) = NamesKnown question
+IsWithin form (tasks.Answer question) = NamesKnown question × HasLook form (look_of question)
 IsWithin form (tasks.Measure request) = IsWithinLimits form request
 IsWithin form (tasks.Events log shown confirmed_by) = HasEventsForm form shown confirmed_by
 IsWithin forms.Json (tasks.Convert input conversion) = ⊥

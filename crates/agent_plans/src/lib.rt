@@ -6,6 +6,6 @@ mod plan;
 pub use cells::Form;
 pub use plan::{
     ArgumentsFault, AttestOptions, ComparisonKind, ComparisonOptions, ConfirmedBy, Conversion,
-    DataShown, LogFile, Measurement, NameEnd, Names, Plan, Print, Query, Quoting, Scope,
+    DataShown, LogFile, Look, Measurement, NameEnd, Names, Plan, Print, Query, Quoting, Scope,
     SigningOptions, Task,
 };

@@ -2,7 +2,7 @@
 
 ghost use Rattle.std.specs.Prelude.{◌≡◌};
 ghost use Rattle.cells.specs.declared.writer.Form.TheVariants.{Text};
-ghost use Rattle.agent_plans.specs.Plans.{IsOneOf, plain_log, task_of, whole_verdict};
+ghost use Rattle.agent_plans.specs.Plans.{IsOneOf, look_of, plain_log, task_of, whole_verdict};
 ghost use Rattle.agent_plans.specs.declared.plan.Query.TheVariants as queries;
 ghost use Rattle.agent_plans.specs.declared.plan.Task.TheVariants as tasks;
 ghost use Rattle.agent_plans.specs.declared.plan.ArgumentsFault.TheVariants.{Memory};
@@ -82,6 +82,17 @@ pub enum Scope {
     Prefix,
 }
 
+/// How a verdict is shown as text.
+#[derive(Clone, Copy, PartialEq, Eq)]
+pub enum Look {
+    /// By the report.
+    Plain,
+    /// By the report as on a terminal: PCRs that match at their reset values come last, and are marked.
+    Terminal,
+    /// By one line in place of the report.
+    Summary,
+}
+
 /// Which comparison it is, with the inputs and options that only it has.
 #[derive(Drop)]
 pub enum ComparisonKind {
@@ -122,6 +133,8 @@ pub struct ComparisonOptions {
     pub old_kernel: bool,
     /// Whether standard error says what to do next even if it is no terminal.
     pub explained: bool,
+    /// How the verdict is shown as text: plain, unless there is one.
+    pub look: Look,
 }
 
 /// What tells that a quote's message is signed by the right key.
@@ -178,6 +191,8 @@ pub struct AttestOptions {
     pub save: Option<String>,
     /// Whether standard error says what to do next even if it is no terminal.
     pub explained: bool,
+    /// How the verdict is shown as text: plain, unless there is one.
+    pub look: Look,
 }
 
 /// What tells which data of a log is confirmed.
@@ -256,6 +271,22 @@ pub enum Query {
     },
 }
 
+impl Query {
+    /// How the answer is shown as text: plain, unless it is a verdict that is shown in another way.
+    pub fn look(&self) -> Look
+        ensures { result ≡ look_of self.now }
+    {
+        match self {
+            Query::Comparison(judge) => judge.look,
+            Query::Attestation(attest) => attest.look,
+            Query::LogRegisters { .. }
+            | Query::ListRegisters { .. }
+            | Query::Expected { .. }
+            | Query::Key { .. } => Look::Plain,
+        }
+    }
+}
+
 /// What is to be done.
 #[derive(Drop)]
 pub enum Task {
@@ -294,6 +325,8 @@ pub enum Task {
     Entries {
         /// The name of the measurement list, binary.
         list: String,
+        /// Whether the entries before a fault are shown as text too; as JSON they are in any case.
+        partial: bool,
     },
     /// Show this help.
     Help(String),
@@ -390,10 +423,17 @@ impl Plan {
                     known: None,
                     old_kernel: false,
                     explained: false,
+                    look: Look::Plain,
                 };
                 (Task::Answer(Query::Comparison(judge)), Form::Text)
             }
-            Plan::Show { list } => (Task::Entries { list }, Form::Text),
+            Plan::Show { list } => (
+                Task::Entries {
+                    list,
+                    partial: false,
+                },
+                Form::Text,
+            ),
             Plan::Help(text) => (Task::Help(text), Form::Text),
             Plan::Task(task, form) => (task, form),
         }
@@ -408,7 +448,13 @@ impl Plan {
             (Task::Registers, Form::Text) => Plan::Registers,
             (Task::Measure(request), Form::Text) => measurement_plan(request),
             (Task::Answer(Query::Comparison(judge)), Form::Text) => comparison_plan(judge),
-            (Task::Entries { list }, Form::Text) => Plan::Show { list },
+            (
+                Task::Entries {
+                    list,
+                    partial: false,
+                },
+                Form::Text,
+            ) => Plan::Show { list },
             (Task::Help(text), Form::Text) => Plan::Help(text),
             (task, form) => Plan::Task(task, form),
         }
@@ -480,6 +526,7 @@ fn verdict_plan(log: LogFile, list: String, expected: String) -> Plan
             known: None,
             old_kernel: false,
             explained: false,
+            look: Look::Plain,
         };
         Plan::Task(Task::Answer(Query::Comparison(judge)), Form::Text)
     } else {
@@ -504,8 +551,9 @@ fn comparison_plan(judge: ComparisonOptions) -> Plan
         known,
         old_kernel,
         explained,
+        look,
     } = judge;
-    match (kind, required, known, old_kernel, explained) {
+    match (kind, required, known, old_kernel, explained, look) {
         (
             ComparisonKind::Verdict {
                 log,
@@ -517,8 +565,9 @@ fn comparison_plan(judge: ComparisonOptions) -> Plan
             None,
             false,
             false,
+            Look::Plain,
         ) => verdict_plan(log, list, expected),
-        (kind, required, known, old_kernel, explained) => {
+        (kind, required, known, old_kernel, explained, look) => {
             let judge = ComparisonOptions {
                 kind,
                 list,
@@ -527,6 +576,7 @@ fn comparison_plan(judge: ComparisonOptions) -> Plan
                 known,
                 old_kernel,
                 explained,
+                look,
             };
             Plan::Task(Task::Answer(Query::Comparison(judge)), Form::Text)
         }

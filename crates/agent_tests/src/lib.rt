@@ -3,6 +3,8 @@
 #![tactic(auto)]
 
 #[cfg(test)]
+mod colors;
+#[cfg(test)]
 mod commands;
 #[cfg(test)]
 mod devices;

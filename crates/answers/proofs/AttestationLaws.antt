@@ -20,6 +20,7 @@ use Rattle.cells.specs.Values.{IsCount, IsOneLine, items_of, members_of, object_
 use Rattle.cells.specs.Cells.{beside, each, if_some, item_number, list_at, object, object_at, when}
 use Rattle.cells.proofs.FaultMemberLaws.{AreOther, lacks, others_joined}
 use Rattle.cells.proofs.LineLaws.{ArePlain, ItemsArePlain, line_within, members_deeper, members_joined, values_joined}
+use Rattle.answers.specs.declared.row_order.RowOrder.TheVariants.{Given}
 use Rattle.answers.specs.AttestationCells.{attestation_cell, attestation_counts, bank_cell, comparison_cell, conclusion_cell, number_cell, quote_cell, selection_cell, stated_cell, values_cell}
 use Rattle.answers.specs.Counted.{AreCounted, IsCountedClock, IsCountedUnknown, IsCountedWhole}
 use Rattle.answers.specs.ReportCells.{report_rows, strays_cell, unconfirmed_cell, unknown_cell}
@@ -88,10 +89,10 @@ counts_plain verdict (Some whole) events locality entries fits = (
 )
 
 values_plain : (expected : ExpectedValues) (rows : List Row) → AllByRecursion (λ row. IsCount row.expected.register) rows
-    → ArePlain (values_cell expected rows).json 3
+    → ArePlain (values_cell Given expected rows).json 3
 unfolding beside
 values_plain values.NotGiven rows fit = tt
-values_plain values.Confirmed rows fit = (tt, members_deeper (members_of (report_rows None rows).json) 2 (report_plain None rows fit))
+values_plain values.Confirmed rows fit = (tt, members_deeper (members_of (report_rows Given None rows).json) 2 (report_plain None rows fit))
 values_plain values.Unconfirmed rows fit = (tt, tt)
 
 conclusion_plain : (signature : SignatureState) (is_match : Bool) → ArePlain (conclusion_cell signature is_match).json 3
@@ -103,13 +104,13 @@ conclusion_plain signatures.Valid is_match = (tt, (tt, tt))
 pub attestation_line : (unknown : Option UnknownFiles) (report : AttestVerdict) → IsCountedClock report.quoted.clock → IsCount report.quoted.firmware
     → IsCount report.verdict.events → IsCount report.verdict.locality → IsCount report.verdict.entries
     → IfSome report.prefix IsCountedWhole → AreCounted report.verdict.strays → IfSome unknown IsCountedUnknown
-    → AllByRecursion (λ row. IsCount row.expected.register) report.verdict.rows → IsOneLine (object_of (attestation_cell unknown report).json)
+    → AllByRecursion (λ row. IsCount row.expected.register) report.verdict.rows → IsOneLine (object_of (attestation_cell Given unknown report).json)
 unfolding beside
 attestation_line unknown report clock firmware events locality entries prefix strays counted rows =
     let few : 4 ≤ 8 = omega arith in
     let extends = members_deeper (members_of (strays_cell report.verdict.strays).json) 2 (strays_plain report.verdict.strays strays) in
-    let compared : ArePlain (comparison_cell report).json 3 =
-    (tt, members_joined 3 (values_cell report.expected report.verdict.rows).json _ (values_plain report.expected report.verdict.rows rows) extends) in
+    let compared : ArePlain (comparison_cell Given report).json 3 =
+    (tt, members_joined 3 (values_cell Given report.expected report.verdict.rows).json _ (values_plain report.expected report.verdict.rows rows) extends) in
     let numbers = members_deeper (members_of (if_some unknown unknown_cell).json) 2 (unknown_plain unknown counted) in
     let last = members_joined 3 (if_some unknown unknown_cell).json
     ((quote_cell report.is_quoted).json ++ (conclusion_cell report.signature (has_no_unknown unknown && is_attested report)).json) numbers
@@ -118,7 +119,7 @@ attestation_line unknown report clock firmware events locality entries prefix st
     (members_joined 3 (stated_cell report.quoted).json _ (stated_plain report.quoted clock firmware)
     (members_joined 3 (attestation_counts report.verdict report.prefix).json _
     (counts_plain report.verdict report.prefix events locality entries prefix)
-    (members_joined 3 (comparison_cell report).json _ compared last)))
+    (members_joined 3 (comparison_cell Given report).json _ compared last)))
 
 -- ---- its members
 
@@ -127,7 +128,7 @@ unfolding beside
 counts_other verdict None = (refl, (refl, (refl, tt)))
 counts_other verdict (Some whole) = (refl, (refl, (refl, (refl, unconfirmed_other whole.unconfirmed))))
 
-values_other : (expected : ExpectedValues) (rows : List Row) → AreOther (members_of (values_cell expected rows).json)
+values_other : (expected : ExpectedValues) (rows : List Row) → AreOther (members_of (values_cell Given expected rows).json)
 unfolding beside list_at
 values_other values.NotGiven rows = tt
 values_other values.Confirmed rows = (refl, (refl, tt))
@@ -140,14 +141,14 @@ conclusion_other signatures.Checked is_match = (refl, (refl, tt))
 conclusion_other signatures.Valid is_match = (refl, (refl, tt))
 
 pub attestation_lacks : (unknown : Option UnknownFiles) (report : AttestVerdict)
-    → get (codes "fault") (object_of (attestation_cell unknown report).json) ≡ None
+    → get (codes "fault") (object_of (attestation_cell Given unknown report).json) ≡ None
 unfolding beside each list_at object_at
 attestation_lacks unknown report =
-    let given = others_joined (values_cell report.expected report.verdict.rows).json _ (values_other report.expected report.verdict.rows)
+    let given = others_joined (values_cell Given report.expected report.verdict.rows).json _ (values_other report.expected report.verdict.rows)
     (strays_other report.verdict.strays) in
     let last = others_joined (if_some unknown unknown_cell).json
     ((quote_cell report.is_quoted).json ++ (conclusion_cell report.signature (has_no_unknown unknown && is_attested report)).json)
     (unknown_other unknown) (refl, conclusion_other report.signature (has_no_unknown unknown && is_attested report)) in
-    let ended = others_joined (comparison_cell report).json _ (refl, given) last in
+    let ended = others_joined (comparison_cell Given report).json _ (refl, given) last in
     let counted = others_joined (attestation_counts report.verdict report.prefix).json _ (counts_other report.verdict report.prefix) ended in
-    lacks (object_of (attestation_cell unknown report).json) refl (refl, (refl, (refl, (refl, counted))))
+    lacks (object_of (attestation_cell Given unknown report).json) refl (refl, (refl, (refl, (refl, counted))))

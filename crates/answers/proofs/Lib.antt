@@ -3,4 +3,5 @@ pub mod ChangeLaws
 pub mod KeyLaws
 pub mod LineLaws
 pub mod MemberLaws
+pub mod RowOrderLaws
 pub mod TextLaws

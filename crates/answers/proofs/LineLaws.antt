@@ -27,6 +27,7 @@ use Rattle.known_files.specs.declared.unknown.UnknownFiles.{UnknownFiles}
 use Rattle.cells.specs.Values.{IsCount, IsOneLine, Member, items_of, number_json, object_of}
 use Rattle.cells.specs.Cells.{Cell, beside, each, if_some, list_at, nothing, number_member, object, object_at, when}
 use Rattle.cells.proofs.LineLaws.{ArePlain, ItemsArePlain, members_joined, one_line, values_joined}
+use Rattle.answers.specs.declared.row_order.RowOrder.TheVariants.{Given}
 use Rattle.answers.specs.Counted.{AreCounted, IsCountedPosition, IsCountedUnknown}
 use Rattle.answers.specs.PositionCells.{found_cell, finds, position_cell, positions_cell}
 use Rattle.answers.specs.RegisterCells.{change_cell, changed_value, expected_cell, registers_cell, value_cell}
@@ -133,7 +134,7 @@ state_plain (Differ value) = (tt, (tt, tt))
 state_plain Absent = (tt, tt)
 
 pub report_plain : (required : Option (List BankRange)) (rows : List Row) → AllByRecursion (λ row. IsCount row.expected.register) rows
-    → ArePlain (report_rows required rows).json 2
+    → ArePlain (report_rows Given required rows).json 2
 report_plain required rows fit =
     rows_plain (λ row. IsCount row.expected.register) (codes "state") (λ row. row.expected) (λ row. state_cell row.state)
     (λ row is. (is, state_plain row.state)) required rows fit
@@ -190,12 +191,12 @@ unknown_plain (Some unknown) fits = (
 outcome_plain : (required : Option (List BankRange)) (unknown : Option UnknownFiles) (is_match : Bool) (verdict : Verdict)
     → IsCount (length verdict.rows) → AreCounted verdict.strays
     → IfSome unknown IsCountedUnknown → AllByRecursion (λ row. IsCount row.expected.register) verdict.rows
-    → ArePlain (outcome_cell required unknown is_match verdict).json 2
+    → ArePlain (outcome_cell Given required unknown is_match verdict).json 2
 unfolding beside
 outcome_plain required unknown is_match verdict compared strays counted rows =
     members_joined 2 (compared_cell required (length verdict.rows)).json _ (compared_plain required _ compared) (
       tt,
-      members_joined 2 (report_rows required verdict.rows).json _ (report_plain required verdict.rows rows)
+      members_joined 2 (report_rows Given required verdict.rows).json _ (report_plain required verdict.rows rows)
           (members_joined 2 (if_some required (λ ranges. strays_cell verdict.strays)).json _ (required_strays required verdict.strays strays)
           (members_joined 2 (if_some unknown unknown_cell).json _ (unknown_plain unknown counted) (tt, tt))),
     )
@@ -205,7 +206,7 @@ outcome_plain required unknown is_match verdict compared strays counted rows =
 pub report_line : (required : Option (List BankRange)) (unknown : Option UnknownFiles) (is_match : Bool) (verdict : Verdict)
     → IsCount verdict.events → IsCount verdict.locality → IsCount verdict.entries → IsCount (length verdict.rows)
     → AreCounted verdict.strays → IfSome unknown IsCountedUnknown → AllByRecursion (λ row. IsCount row.expected.register) verdict.rows
-    → IsOneLine (object_of (report_cell required unknown is_match verdict).json)
+    → IsOneLine (object_of (report_cell Given required unknown is_match verdict).json)
 unfolding beside
 report_line required unknown is_match verdict events locality entries compared strays counted rows = one_line _ (
   (verdict.events, events, refl),
@@ -246,7 +247,7 @@ pub prefix_line : (required : Option (List BankRange)) (unknown : Option Unknown
     → IsCount prefix.events → IsCount prefix.locality → IsCount prefix.entries → IsCount entries
     → IfSome unconfirmed (λ fault. IfSome (unconfirmed_entry fault) IsCount) → IsCount (length prefix.rows) → AreCounted prefix.strays
     → IfSome unknown IsCountedUnknown → AllByRecursion (λ row. IsCount row.expected.register) prefix.rows
-    → IsOneLine (object_of (prefix_cell required unknown prefix entries unconfirmed).json)
+    → IsOneLine (object_of (prefix_cell Given required unknown prefix entries unconfirmed).json)
 unfolding beside
 prefix_line required unknown prefix entries unconfirmed events locality confirmed all after compared strays counted rows =
     let told = members_joined 2 (if_some unconfirmed unconfirmed_cell).json _ (unconfirmed_plain unconfirmed after)
@@ -259,12 +260,12 @@ prefix_line required unknown prefix entries unconfirmed events locality confirme
 pub list_report_line : (required : Option (List BankRange)) (unknown : Option UnknownFiles) (verdict : ListVerdict)
     → IsCount verdict.entries → IsCount (length verdict.rows) → AreCounted verdict.strays
     → IfSome unknown IsCountedUnknown → AllByRecursion (λ row. IsCount row.expected.register) verdict.rows
-    → IsOneLine (object_of (list_report_cell required unknown verdict).json)
+    → IsOneLine (object_of (list_report_cell Given required unknown verdict).json)
 unfolding beside
 list_report_line required unknown verdict entries compared strays counted rows = one_line _ (
   (verdict.entries, entries, refl),
   members_joined 2 (compared_cell required (length verdict.rows)).json _ (compared_plain required _ compared)
-      (members_joined 2 (report_rows required verdict.rows).json _ (report_plain required verdict.rows rows)
+      (members_joined 2 (report_rows Given required verdict.rows).json _ (report_plain required verdict.rows rows)
       (members_joined 2 (if_some required (λ ranges. strays_cell verdict.strays)).json _ (required_strays required verdict.strays strays)
       (members_joined 2 (if_some unknown unknown_cell).json _ (unknown_plain unknown counted) (tt, tt)))),
 )

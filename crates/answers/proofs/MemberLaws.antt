@@ -14,6 +14,7 @@ use Rattle.known_files.specs.declared.unknown.UnknownFiles.{UnknownFiles}
 use Rattle.cells.specs.Values.{members_of, object_of}
 use Rattle.cells.specs.Cells.{Cell, beside, if_some, list_at, nothing, object_at}
 use Rattle.cells.proofs.FaultMemberLaws.{AreOther, lacks, others_joined}
+use Rattle.answers.specs.declared.row_order.RowOrder.TheVariants.{Given}
 use Rattle.answers.specs.PositionCells.{positions_cell}
 use Rattle.answers.specs.RegisterCells.{expected_cell, registers_cell}
 use Rattle.answers.specs.ReportCells.{compared_cell, list_report_cell, meets, outcome_cell, prefix_cell, report_cell, stray_entry, stray_event, strays_cell, unconfirmed_cell, unknown_cell}
@@ -48,7 +49,7 @@ unconfirmed_other None = tt
 unconfirmed_other (Some fault) = (refl, tt)
 
 outcome_other : (required : Option (List BankRange)) (unknown : Option UnknownFiles) (is_match : Bool) (verdict : Verdict)
-    → AreOther (members_of (outcome_cell required unknown is_match verdict).json)
+    → AreOther (members_of (outcome_cell Given required unknown is_match verdict).json)
 unfolding beside list_at
 outcome_other required unknown is_match verdict =
     others_joined (compared_cell required (length verdict.rows)).json _ (compared_other required _) (
@@ -63,15 +64,15 @@ outcome_other required unknown is_match verdict =
 -- ---- answers
 
 pub report_lacks : (required : Option (List BankRange)) (unknown : Option UnknownFiles) (is_match : Bool) (verdict : Verdict)
-    → get (codes "fault") (object_of (report_cell required unknown is_match verdict).json) ≡ None
+    → get (codes "fault") (object_of (report_cell Given required unknown is_match verdict).json) ≡ None
 unfolding beside
-report_lacks required unknown is_match verdict = lacks (object_of (report_cell required unknown is_match verdict).json) refl (refl, (refl, (refl, outcome_other required unknown is_match verdict)))
+report_lacks required unknown is_match verdict = lacks (object_of (report_cell Given required unknown is_match verdict).json) refl (refl, (refl, (refl, outcome_other required unknown is_match verdict)))
 
 pub prefix_lacks : (required : Option (List BankRange)) (unknown : Option UnknownFiles) (prefix : Verdict) (entries : ℕ) (unconfirmed : Option Unconfirmed)
-    → get (codes "fault") (object_of (prefix_cell required unknown prefix entries unconfirmed).json) ≡ None
+    → get (codes "fault") (object_of (prefix_cell Given required unknown prefix entries unconfirmed).json) ≡ None
 unfolding beside
 prefix_lacks required unknown prefix entries unconfirmed =
-    lacks (object_of (prefix_cell required unknown prefix entries unconfirmed).json) refl (
+    lacks (object_of (prefix_cell Given required unknown prefix entries unconfirmed).json) refl (
       refl,
       (
         refl,
@@ -87,9 +88,9 @@ prefix_lacks required unknown prefix entries unconfirmed =
     )
 
 pub list_report_lacks : (required : Option (List BankRange)) (unknown : Option UnknownFiles) (verdict : ListVerdict)
-    → get (codes "fault") (object_of (list_report_cell required unknown verdict).json) ≡ None
+    → get (codes "fault") (object_of (list_report_cell Given required unknown verdict).json) ≡ None
 unfolding beside list_at
-list_report_lacks required unknown verdict = lacks (object_of (list_report_cell required unknown verdict).json) refl (
+list_report_lacks required unknown verdict = lacks (object_of (list_report_cell Given required unknown verdict).json) refl (
   refl,
   others_joined (compared_cell required (length verdict.rows)).json _ (compared_other required _) (
     refl,

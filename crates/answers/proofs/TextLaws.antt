@@ -21,6 +21,7 @@ use Rattle.tpm_keys.specs.declared.report.KeyReport.{KeyReport}
 use Rattle.tpm_keys.specs.Reports.{key_text}
 use Rattle.cells.specs.Values.{Member}
 use Rattle.cells.specs.Cells.{Cell, beside, each, if_some, list_at, object}
+use Rattle.answers.specs.declared.row_order.RowOrder.TheVariants.{Given}
 use Rattle.answers.specs.KeyCells.{key_cell}
 use Rattle.answers.specs.PositionCells.{found_cell, position_cell, positions_cell}
 use Rattle.answers.specs.RegisterCells.{changed_value, expected_cell, registers_cell, value_cell}
@@ -80,14 +81,14 @@ verdict_line unknown is_match true e = rw e refl
 verdict_line unknown is_match false e = rw e refl
 
 -- What comes after the counts, from the texts of its parts.
-plain_outcome : (is_match : Bool) (verdict : Verdict) → (outcome_cell None None is_match verdict).text ≡ outcome_text verdict is_match
+plain_outcome : (is_match : Bool) (verdict : Verdict) → (outcome_cell Given None None is_match verdict).text ≡ outcome_text verdict is_match
 unfolding beside
 plain_outcome is_match verdict =
     ap (λ (t : List ℕ). aggregate_text verdict.aggregate ++ (t ++ (verdict_cell None is_match).text))
     (plain_rows (codes "state") (λ row. row.expected) (λ row. state_cell row.state) row_text (λ row. state_line row.expected row.state) verdict.rows)
     ∙ ap (λ (t : List ℕ). aggregate_text verdict.aggregate ++ (flat_map row_text verdict.rows ++ t)) (verdict_line None is_match is_match refl)
 
-pub plain_report : (is_match : Bool) (verdict : Verdict) → (report_cell None None is_match verdict).text
+pub plain_report : (is_match : Bool) (verdict : Verdict) → (report_cell Given None None is_match verdict).text
     ≡ counts_text verdict.events verdict.locality verdict.entries ++ outcome_text verdict is_match
 unfolding beside
 plain_report is_match verdict =

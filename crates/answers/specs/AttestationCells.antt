@@ -18,6 +18,7 @@ use Rattle.known_files.specs.declared.unknown.UnknownFiles.{UnknownFiles}
 use Rattle.known_files.specs.Unknown.{has_no_unknown}
 use Rattle.cells.specs.Values.{Member}
 use Rattle.cells.specs.Cells.{Cell, beside, each, flag_member, hex, if_some, in_order, item_number, list_at, nothing, number, object, object_at, text, when, word, word_member}
+use Rattle.answers.specs.declared.row_order.RowOrder.{RowOrder}
 use Rattle.answers.specs.ReportCells.{aggregate_cell, counts_cell, prefix_counts_cell, report_rows, strays_cell, unknown_cell, verdict_word}
 
 -- ---- what the quote states
@@ -80,16 +81,16 @@ abbrev pub confirmed_word : List ℕ → Cell Member
 confirmed_word is = beside (word (codes "expected ") (codes "expected") is) (text (codes "\n"))
 
 -- What came of expected values, if some were given; if they are confirmed, the rows.
-abbrev pub values_cell : ExpectedValues → List Row → Cell Member
-values_cell NotGiven rows = nothing
-values_cell Confirmed rows = beside (confirmed_word (codes "confirmed")) (report_rows None rows)
-values_cell Unconfirmed rows = confirmed_word (codes "unconfirmed")
+abbrev pub values_cell : RowOrder → ExpectedValues → List Row → Cell Member
+values_cell order NotGiven rows = nothing
+values_cell order Confirmed rows = beside (confirmed_word (codes "confirmed")) (report_rows order None rows)
+values_cell order Unconfirmed rows = confirmed_word (codes "unconfirmed")
 
 -- How log and list compare: the boot aggregate, expected values, and what extends a register that is not its own.
-abbrev pub comparison_cell : AttestVerdict → Cell Member
-comparison_cell report = in_order (
+abbrev pub comparison_cell : RowOrder → AttestVerdict → Cell Member
+comparison_cell order report = in_order (
     aggregate_cell report.verdict.aggregate
-    ∷ values_cell report.expected report.verdict.rows
+    ∷ values_cell order report.expected report.verdict.rows
     ∷ strays_cell report.verdict.strays
     ∷ [])
 
@@ -127,11 +128,11 @@ conclusion_cell Valid is_match = valid_cell is_match
 
 -- The report: what the quote states, the counts, how log and list compare, which entries are not known, how the quote compares, and the
 -- verdict, which is no match if an entry is not known.
-abbrev pub attestation_cell : Option UnknownFiles → AttestVerdict → Cell Member
-attestation_cell unknown report = in_order (
+abbrev pub attestation_cell : RowOrder → Option UnknownFiles → AttestVerdict → Cell Member
+attestation_cell order unknown report = in_order (
     stated_cell report.quoted
     ∷ attestation_counts report.verdict report.prefix
-    ∷ comparison_cell report
+    ∷ comparison_cell order report
     ∷ if_some unknown unknown_cell
     ∷ quote_cell report.is_quoted
     ∷ conclusion_cell report.signature (has_no_unknown unknown && is_attested report)

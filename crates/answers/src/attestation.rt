@@ -10,9 +10,8 @@ ghost use Rattle.answers.specs.AttestationCells.{attestation_cell, attestation_c
 
 use crate::prefix::show_prefix_counts;
 use crate::quoted::show_stated;
-use crate::report::{
-    show_aggregate, show_counts, show_extends, show_report_rows, show_unknown, verdict_word,
-};
+use crate::report::{show_aggregate, show_counts, show_extends, show_unknown, verdict_word};
+use crate::row_order::{RowOrder, show_report_rows};
 use attestations::{AttestReport, ExpectedValues, SignatureState, Whole};
 use boot_verdict::{Report, Row};
 use cells::{CellWriter, Written};
@@ -24,13 +23,14 @@ pub fn show_attestation(
     alloc: Global,
     report: &AttestReport,
     unknown: Option<&UnknownFiles>,
+    order: RowOrder,
     out: &mut CellWriter,
 ) -> Written
-    ensures { ShowsMembers result out.old out.new (attestation_cell (option_copied unknown.entry) (attest_verdict_of report.now)) }
+    ensures { ShowsMembers result out.old out.new (attestation_cell order (option_copied unknown.entry) (attest_verdict_of report.now)) }
 {
     show_stated(alloc, &report.quoted, out)?;
     show_list_counts(alloc, &report.report, report.prefix, out)?;
-    show_comparison(alloc, report, out)?;
+    show_comparison(alloc, report, order, out)?;
     show_unknown(unknown, out)?;
     show_quote(report.is_quoted, out)?;
     show_conclusion(report.signature, is_attested(report, unknown), out)
@@ -59,11 +59,16 @@ fn show_list_counts(
 }
 
 // Shows the boot aggregate, what came of expected values, and what extends a register that is not its own.
-fn show_comparison(alloc: Global, report: &AttestReport, out: &mut CellWriter) -> Written
-    ensures { ShowsMembers result out.old out.new (comparison_cell (attest_verdict_of report.now)) }
+fn show_comparison(
+    alloc: Global,
+    report: &AttestReport,
+    order: RowOrder,
+    out: &mut CellWriter,
+) -> Written
+    ensures { ShowsMembers result out.old out.new (comparison_cell order (attest_verdict_of report.now)) }
 {
     show_aggregate(report.report.aggregate, out)?;
-    show_values(alloc, report.expected, &report.report.rows, out)?;
+    show_values(alloc, report.expected, &report.report.rows, order, out)?;
     show_extends(report.report.strays, out)
 }
 
@@ -72,23 +77,24 @@ fn show_values(
     alloc: Global,
     expected: ExpectedValues,
     rows: &[Row],
+    order: RowOrder,
     out: &mut CellWriter,
 ) -> Written
-    ensures { ShowsMembers result out.old out.new (values_cell expected rows.now) }
+    ensures { ShowsMembers result out.old out.new (values_cell order expected rows.now) }
 {
     match expected {
         ExpectedValues::NotGiven => Ok(()),
-        ExpectedValues::Confirmed => show_confirmed(alloc, rows, out),
+        ExpectedValues::Confirmed => show_confirmed(alloc, rows, order, out),
         ExpectedValues::Unconfirmed => show_word("unconfirmed", out),
     }
 }
 
 // Shows that expected values are confirmed, and how their registers compare.
-fn show_confirmed(alloc: Global, rows: &[Row], out: &mut CellWriter) -> Written
-    ensures { ShowsMembers result out.old out.new (values_cell Confirmed rows.now) }
+fn show_confirmed(alloc: Global, rows: &[Row], order: RowOrder, out: &mut CellWriter) -> Written
+    ensures { ShowsMembers result out.old out.new (values_cell order Confirmed rows.now) }
 {
     show_word("confirmed", out)?;
-    show_report_rows(alloc, rows, None, out)
+    show_report_rows(alloc, rows, None, order, out)
 }
 
 fn show_word(word: &str, out: &mut CellWriter) -> Written

@@ -13,6 +13,7 @@ mod quoted;
 mod registers;
 mod report;
 mod report_texts;
+mod row_order;
 mod rows;
 
 pub use attestation::show_attestation;
@@ -24,3 +25,4 @@ pub use prefix::show_prefix;
 pub use registers::{show_expected, show_registers};
 pub use report::show_report;
 pub use report_texts::write_report;
+pub use row_order::RowOrder;

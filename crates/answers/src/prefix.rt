@@ -7,6 +7,7 @@ ghost use Rattle.cells.specs.Cells.{ShowsMembers, if_some};
 ghost use Rattle.answers.specs.ReportCells.{confirmed_cell, prefix_cell, prefix_counts_cell, unconfirmed_cell};
 
 use crate::report::{meets, show_counts, show_outcome};
+use crate::row_order::RowOrder;
 use boot_verdict::{PrefixReport, Report, Requirement, Unconfirmed};
 use cells::{CellWriter, Written};
 use known_files::UnknownFiles;
@@ -18,15 +19,16 @@ pub fn show_prefix(
     prefix: &PrefixReport,
     requirement: Option<&Requirement>,
     unknown: Option<&UnknownFiles>,
+    order: RowOrder,
     out: &mut CellWriter,
 ) -> Written
-    ensures { ShowsMembers result out.old out.new (prefix_cell (option_copied requirement.entry) (option_copied unknown.entry)
+    ensures { ShowsMembers result out.old out.new (prefix_cell order (option_copied requirement.entry) (option_copied unknown.entry)
         (verdict_of prefix.now.report) prefix.now.entries prefix.now.unconfirmed) }
 {
     let report = &prefix.report;
     let is_met = meets(report, requirement);
     show_prefix_counts(alloc, report, prefix.entries, prefix.unconfirmed, out)?;
-    show_outcome(alloc, report, requirement, unknown, is_met, out)
+    show_outcome(alloc, report, requirement, unknown, is_met, order, out)
 }
 
 /// Shows the counts of the whole list, how many of its entries the prefix has on which the report is, and what is wrong after it.

@@ -5,9 +5,10 @@ ghost use Rattle.boot_verdict.specs.declared.report.State.TheVariants.{Differ};
 ghost use Rattle.boot_verdict.specs.Names.{verdict_of};
 ghost use Rattle.known_files.specs.Unknown.{has_no_unknown};
 ghost use Rattle.cells.specs.Cells.{ShowsItems, ShowsMembers, each, if_some, item_number};
-ghost use Rattle.answers.specs.ReportCells.{aggregate_cell, compared_cell, compared_line, counts_cell, meets, outcome_cell, report_cell, report_rows, state_cell, stray_cell, stray_entry, stray_event, strays_cell, unknown_cell, verdict_cell, verdict_word};
+ghost use Rattle.answers.specs.ReportCells.{aggregate_cell, compared_cell, compared_line, counts_cell, meets, outcome_cell, report_cell, state_cell, stray_cell, stray_entry, stray_event, strays_cell, unknown_cell, verdict_cell, verdict_word};
 
-use crate::rows::{Says, show_rows};
+use crate::row_order::{RowOrder, show_report_rows};
+use crate::rows::Says;
 use boot_verdict::{
     Aggregate, LIST_REGISTER, Report, Requirement, Row, State, Stray, Strays, aggregate_word,
 };
@@ -23,13 +24,14 @@ pub fn show_report(
     requirement: Option<&Requirement>,
     unknown: Option<&UnknownFiles>,
     is_match: bool,
+    order: RowOrder,
     out: &mut CellWriter,
 ) -> Written
     ensures { ShowsMembers result out.old out.new
-        (report_cell (option_copied requirement.entry) (option_copied unknown.entry) is_match (verdict_of report.now)) }
+        (report_cell order (option_copied requirement.entry) (option_copied unknown.entry) is_match (verdict_of report.now)) }
 {
     show_counts(report.events, report.locality, report.entries, out)?;
-    show_outcome(alloc, report, requirement, unknown, is_match, out)
+    show_outcome(alloc, report, requirement, unknown, is_match, order, out)
 }
 
 /// Shows how many events and entries there are, and the locality.
@@ -54,14 +56,15 @@ pub(crate) fn show_outcome(
     requirement: Option<&Requirement>,
     unknown: Option<&UnknownFiles>,
     is_match: bool,
+    order: RowOrder,
     out: &mut CellWriter,
 ) -> Written
     ensures { ShowsMembers result out.old out.new
-        (outcome_cell (option_copied requirement.entry) (option_copied unknown.entry) is_match (verdict_of report.now)) }
+        (outcome_cell order (option_copied requirement.entry) (option_copied unknown.entry) is_match (verdict_of report.now)) }
 {
     show_compared(requirement, report.rows.len(), out)?;
     show_aggregate(report.aggregate, out)?;
-    show_report_rows(alloc, &report.rows, requirement, out)?;
+    show_report_rows(alloc, &report.rows, requirement, order, out)?;
     show_strays(report.strays, requirement, out)?;
     show_unknown(unknown, out)?;
     show_verdict(unknown, is_match, out)
@@ -109,17 +112,6 @@ pub(crate) fn show_aggregate(aggregate: Aggregate, out: &mut CellWriter) -> Writ
         aggregate_word(aggregate),
     )?;
     out.text("\n")
-}
-
-pub(crate) fn show_report_rows(
-    alloc: Global,
-    rows: &[Row],
-    requirement: Option<&Requirement>,
-    out: &mut CellWriter,
-) -> Written
-    ensures { ShowsMembers result out.old out.new (report_rows (option_copied requirement.entry) rows.now) }
-{
-    show_rows(alloc, "state", rows, requirement, out)
 }
 
 impl Says for Row {

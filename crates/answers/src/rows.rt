@@ -48,7 +48,11 @@ fn show_each<T: HasExpected + Says>(alloc: Global, rows: &[T], out: &mut CellWri
     Ok(())
 }
 
-fn show_row<T: HasExpected + Says>(alloc: Global, row: &T, out: &mut CellWriter) -> Written
+pub(crate) fn show_row<T: HasExpected + Says>(
+    alloc: Global,
+    row: &T,
+    out: &mut CellWriter,
+) -> Written
     ensures { ShowsItems result out.old out.new (object (row_cell (T.expected_of row.now) (T.said_of row.now))) }
 {
     let expected = row.expected();
@@ -60,15 +64,15 @@ fn show_row<T: HasExpected + Says>(alloc: Global, row: &T, out: &mut CellWriter)
     out.end()
 }
 
-// Shows the expected value.
-fn show_value(alloc: Global, expected: &Expected, out: &mut CellWriter) -> Written
+/// Shows the expected value.
+pub(crate) fn show_value(alloc: Global, expected: &Expected, out: &mut CellWriter) -> Written
     ensures { ShowsMembers result out.old out.new (cells.hex_member (codes "expected") (bytes_of expected.now.value)) }
 {
     out.hex_member(alloc, "expected", expected.value.bytes())
 }
 
-// Shows the required registers that have no row; none where nothing is required.
-fn show_required<T: HasExpected>(
+/// Shows the required registers that have no row; none where nothing is required.
+pub(crate) fn show_required<T: HasExpected>(
     name: &str,
     requirement: Option<&Requirement>,
     rows: &[T],

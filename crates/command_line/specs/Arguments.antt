@@ -1,7 +1,7 @@
 -- The commands as clap takes them, and the plan that comes from the arguments.
-use Rattle.std.specs.Prelude.{◌≡◌, Bool, true, false, Option, None, String, List, [], ◌∷◌, codes, Ok, Some, ℕ, ◌⊎◌, ◌||◌, ◌&&◌, ◌==◌, IsTrue, bytes_eq, drop, find, length, map, nat_le, not, option_map, unwrap_or, string_bytes}
+use Rattle.std.specs.Prelude.{◌≡◌, Bool, true, false, Option, None, String, List, [], ◌∷◌, codes, Ok, Some, ℕ, ◌⊎◌, ◌||◌, ◌&&◌, ◌==◌, IsTrue, bytes_eq, drop, find, if◌then◌else◌, insert, length, map, nat_le, not, option_map, slice_get, unwrap_or, string_bytes}
 use Rattle.std.specs.Global.{Global, Vec}
-use Rattle.std.specs.List.{fold, list_any, starts_with}
+use Rattle.std.specs.List.{fold, list_any, position_or_len, starts_with}
 use Rattle.std.specs.Option.{option_map_or}
 use Rattle.clap.specs.Words.{App, Rule, Text, new_app, new_rule, with_rule, with_subcommand, Row, all_of, first_of, subcommand_of}
 use Rattle.clap.specs.Lexer.{usize_max}
@@ -25,6 +25,8 @@ use Rattle.cells.specs.declared.writer.Form.TheVariants as forms
 use Rattle.agent_plans.specs.declared.plan.ComparisonKind.{ComparisonKind}
 use Rattle.agent_plans.specs.declared.plan.ComparisonKind.TheVariants as kinds
 use Rattle.agent_plans.specs.declared.plan.LogFile.{LogFile}
+use Rattle.agent_plans.specs.declared.plan.Look.{Look}
+use Rattle.agent_plans.specs.declared.plan.Look.TheVariants.{Plain, Terminal, Summary}
 use Rattle.agent_plans.specs.declared.plan.Measurement.{Measurement}
 use Rattle.agent_plans.specs.declared.plan.NameEnd.TheVariants.{LineFeed, Nul}
 use Rattle.agent_plans.specs.declared.plan.Names.{Names}
@@ -40,6 +42,8 @@ use Rattle.agent_plans.specs.declared.plan.SigningOptions.{SigningOptions}
 use Rattle.agent_plans.specs.declared.plan.SigningOptions.TheVariants.{NotChecked, ByCaller, ByKey}
 use Rattle.agent_plans.specs.declared.plan.Task.{Task}
 use Rattle.agent_plans.specs.declared.plan.Task.TheVariants as tasks
+use Rattle.terminal_colors.specs.declared.choice.ColorChoice.{ColorChoice}
+use Rattle.terminal_colors.specs.declared.choice.ColorChoice.TheVariants.{Auto, Always, Never}
 use Rattle.tpm_keys.specs.declared.kinds.KeyPart.{KeyPart}
 use Rattle.tpm_keys.specs.declared.kinds.KeyPart.TheVariants as parts
 use Rattle.tpm_keys.specs.declared.kinds.Purpose.{Purpose}
@@ -55,6 +59,7 @@ pub record Parsers : Type 0 where
   pub limit : ValueParser
   pub prints : ValueParser
   pub parts : ValueParser
+  pub colors : ValueParser
 
 -- A required argument. (The rule of one that may be left out is `new_rule`.)
 abbrev pub required : Text → Rule
@@ -107,6 +112,9 @@ table parsers = (
       ∷ without_default (codes "resume")
       ∷ flag (codes "hcrtm")
       ∷ flag (codes "explain")
+      ∷ flag (codes "summary")
+      ∷ flag (codes "terminal")
+      ∷ optional (codes "color") (codes "auto") parsers.colors
       ∷ flag (codes "json")
       ∷ short_flag 113 (codes "quiet")  -- (`-q`)
       ∷ required (codes "LOG")
@@ -129,6 +137,9 @@ table parsers = (
           ∷ without_default (codes "resume")
           ∷ flag (codes "hcrtm")
           ∷ flag (codes "explain")
+          ∷ flag (codes "summary")
+          ∷ flag (codes "terminal")
+          ∷ optional (codes "color") (codes "auto") parsers.colors
           ∷ flag (codes "json")
           ∷ short_flag 113 (codes "quiet")
           ∷ required (codes "LOG")
@@ -142,6 +153,9 @@ table parsers = (
       beside (without_default (codes "require"))
           ∷ several (codes "known")
           ∷ beside (flag (codes "explain"))
+          ∷ beside (flag (codes "summary"))
+          ∷ flag (codes "terminal")
+          ∷ optional (codes "color") (codes "auto") parsers.colors
           ∷ flag (codes "json")
           ∷ short_flag 113 (codes "quiet")
           ∷ required (codes "LIST")
@@ -153,6 +167,7 @@ table parsers = (
       without_default (codes "require")
           ∷ flag (codes "hcrtm")
           ∷ flag (codes "explain")
+          ∷ optional (codes "color") (codes "auto") parsers.colors
           ∷ flag (codes "json")
           ∷ short_flag 113 (codes "quiet")
           ∷ required (codes "LOG")
@@ -199,7 +214,7 @@ table parsers = (
           ∷ required (codes "LOG")
           ∷ [],
     )
-    ∷ (codes "show", flag (codes "json") ∷ short_flag 113 (codes "quiet") ∷ required (codes "LIST") ∷ [])
+    ∷ (codes "show", flag (codes "partial") ∷ flag (codes "json") ∷ short_flag 113 (codes "quiet") ∷ required (codes "LIST") ∷ [])
     ∷ (codes "registers", flag (codes "hcrtm") ∷ flag (codes "json") ∷ short_flag 113 (codes "quiet") ∷ required (codes "LOG") ∷ [])
     ∷ (codes "expected", without_default (codes "registers") ∷ flag (codes "json") ∷ short_flag 113 (codes "quiet") ∷ required (codes "PCRREAD") ∷ [])
     ∷ (codes "key", flag (codes "endorsement") ∷ optional (codes "print") (codes "all") parsers.parts ∷ flag (codes "json") ∷ short_flag 113 (codes "quiet") ∷ required (codes "FILE") ∷ [])
@@ -312,6 +327,20 @@ pub record HasQuoting (list : Text) (rows : List Row) (quote : String Global) (q
   pub old_kernel_is : IsFlag (codes "old-kernel") rows false true quoting.old_kernel
   pub signing_is : IsSignedAs rows quoting.signing
 
+-- A look is that on a terminal; and it is one line.
+abbrev pub is_terminal : Look → Bool
+is_terminal Terminal = true
+is_terminal look = false
+
+abbrev pub is_summary : Look → Bool
+is_summary Summary = true
+is_summary look = false
+
+-- A verdict has this look: the flags say so, of which no more than one is present.
+abbrev pub IsLook : List Row → Look → Type 0
+IsLook rows look =
+    IsFlag (codes "terminal") rows false true (is_terminal look) × IsFlag (codes "summary") rows false true (is_summary look)
+
 -- The matches have the options and names of this attestation.
 pub record HasAttestOptions (rows : List Row) (attest : AttestOptions) : Type 0 where
   pub log_is : HasLog rows attest.log
@@ -323,6 +352,7 @@ pub record HasAttestOptions (rows : List Row) (attest : AttestOptions) : Type 0 
   pub resume_is : IsGivenAs (codes "resume") rows attest.resume
   pub save_is : IsGivenAs (codes "save") rows attest.save
   pub explained_is : IsFlag (codes "explain") rows false true attest.explained
+  pub look_is : IsLook rows attest.look
 
 abbrev pub part_name : KeyPart → Text
 part_name parts.All = codes "all"
@@ -388,8 +418,13 @@ TakesOld rows (kinds.Verdict log scope resume save) None old_kernel =
     IsFlag (codes "old-kernel") rows false true false × (old_kernel ≡ false)
 TakesOld rows kind required old_kernel = old_kernel ≡ false
 
+-- A comparison has this look: positions have no other than the plain one.
+abbrev pub TakesLook : List Row → ComparisonKind → Look → Type 0
+TakesLook rows (kinds.Positions log) look = look ≡ Plain
+TakesLook rows kind look = IsLook rows look
+
 -- The command of this name asks this, and the matches have its options and names. `ListRegisters` requires that none of EXPECTED,
--- `--require`, `--known` and `--explain` is present.
+-- `--require`, `--known`, `--explain` and `--summary` is present.
 abbrev pub HasQuery : Text → List Row → Query → Type 0
 HasQuery command rows (queries.LogRegisters log) = (command ≡ codes "registers") × HasLog rows log
 HasQuery command rows (queries.ListRegisters list) =
@@ -399,6 +434,7 @@ HasQuery command rows (queries.ListRegisters list) =
     × IsGivenAs (codes "require") rows None
     × AreGivenAs (codes "known") rows None
     × IsFlag (codes "explain") rows false true false
+    × IsFlag (codes "summary") rows false true false
 HasQuery command rows (queries.Comparison judge) =
     HasComparison command rows judge.kind
     × IsGivenAs (codes "LIST") rows (Some judge.list)
@@ -407,6 +443,7 @@ HasQuery command rows (queries.Comparison judge) =
     × AreGivenAs (codes "known") rows judge.known
     × TakesOld rows judge.kind judge.required judge.old_kernel
     × IsFlag (codes "explain") rows false true judge.explained
+    × TakesLook rows judge.kind judge.look
 HasQuery command rows (queries.Attestation attest) = (command ≡ codes "attest") × HasAttestOptions rows attest
 HasQuery command rows (queries.Expected printed registers) =
     (command ≡ codes "expected") × IsGivenAs (codes "PCRREAD") rows (Some printed) × IsGivenAs (codes "registers") rows registers
@@ -443,7 +480,8 @@ HasValues command rows (tasks.Boot log confirmed_by before) =
     × (reads_twice log confirmed_by ≡ false)
     × (reads_earlier before ≡ false)
 HasValues command rows (tasks.Convert input conversion) = (command ≡ conversion_name conversion) × IsGivenAs (codes "FILE") rows (Some input)
-HasValues command rows (tasks.Entries list) = (command ≡ codes "show") × IsGivenAs (codes "LIST") rows (Some list)
+HasValues command rows (tasks.Entries list partial) =
+    (command ≡ codes "show") × IsGivenAs (codes "LIST") rows (Some list) × IsFlag (codes "partial") rows false true partial
 HasValues command rows task = ⊥
 
 -- The command of this name shows its result in this form: with `--json` as JSON, and without it as text. A command that converts has no such
@@ -504,6 +542,82 @@ asks_first words =
 -- The arguments ask for silence: one after the command does, and no `--` comes before it.
 abbrev pub asks_quiet : List (String Global) → Bool
 asks_quiet arguments = nat_le 1 (length arguments) && asks_first (drop 1 arguments)
+
+-- ---- colours
+
+-- The command prints a report, which may have colours.
+abbrev pub may_color : List ℕ → Bool
+may_color word = bytes_eq word (codes "verify") || bytes_eq word (codes "attest") || bytes_eq word (codes "replay") || bytes_eq word (codes "locate")
+
+-- The arguments are those of such a command.
+abbrev pub reports : List (String Global) → Bool
+reports [] = false
+reports (word ∷ words) = may_color (string_bytes word)
+
+-- The argument is `--json`.
+abbrev pub is_json_word : List ℕ → Bool
+is_json_word word = bytes_eq word (codes "--json")
+
+-- The first of these arguments that is `--` or `--json` is `--json`.
+abbrev pub asks_json : List (String Global) → Bool
+asks_json words =
+    option_map_or (λ word. is_json_word (string_bytes word))
+    (find (λ word. ends_options (string_bytes word) || is_json_word (string_bytes word)) words) false
+
+-- The argument is `--color`, alone or with its value.
+abbrev pub is_color_word : List ℕ → Bool
+is_color_word word = bytes_eq word (codes "--color") || begins_with (codes "--color=") word
+
+-- The choice of this name. (Arguments with another name are refused.)
+abbrev pub choice_of : List ℕ → ColorChoice
+choice_of name =
+    if bytes_eq name (codes "always") then Always else if bytes_eq name (codes "never") then Never else Auto
+
+-- What follows `--color`.
+abbrev pub choice_next : List (String Global) → ColorChoice
+choice_next [] = Auto
+choice_next (word ∷ words) = choice_of (string_bytes word)
+
+-- What this argument says of colours, before these.
+abbrev pub choice_by : List ℕ → List (String Global) → ColorChoice
+choice_by word rest =
+    if bytes_eq word (codes "--color=always") then Always
+    else if bytes_eq word (codes "--color=never") then Never
+    else if bytes_eq word (codes "--color") then choice_next rest
+    else Auto
+
+-- What the first of these arguments says of colours.
+abbrev pub choice_at : List (String Global) → ColorChoice
+choice_at [] = Auto
+choice_at (word ∷ rest) = choice_by (string_bytes word) rest
+
+-- What the first `--color` says, unless `--` comes before it.
+abbrev pub choice_asked : List (String Global) → ColorChoice
+choice_asked words =
+    choice_at (drop (position_or_len (λ word. ends_options (string_bytes word) || is_color_word (string_bytes word)) words) words)
+
+-- When the output has colours: what `--color` says, for a report that is no JSON; otherwise never.
+abbrev pub color_choice : List (String Global) → ColorChoice
+color_choice arguments = if reports arguments && not (asks_json arguments) then choice_asked arguments else Never
+
+-- The command judges, so that its result can be shown as on a terminal.
+abbrev pub judges : List ℕ → Bool
+judges word = bytes_eq word (codes "verify") || bytes_eq word (codes "attest") || bytes_eq word (codes "replay")
+
+-- The argument says how a verdict is shown.
+abbrev pub says_look : List ℕ → Bool
+says_look word = bytes_eq word (codes "--json") || bytes_eq word (codes "--summary") || bytes_eq word (codes "--terminal")
+
+-- The first argument is a command that judges, and none says how the verdict is shown.
+abbrev pub takes_terminal : List (String Global) → Bool
+takes_terminal arguments =
+    option_map_or (λ word. judges (string_bytes word)) (slice_get arguments 0) false
+    && not (list_any (λ word. says_look (string_bytes word)) arguments)
+
+-- The arguments as on a terminal: `--terminal` follows such a command. Nothing else changes.
+abbrev pub as_on_terminal : List (String Global) → List Text
+as_on_terminal arguments =
+    if takes_terminal arguments then insert (map string_bytes arguments) 1 (codes "--terminal") else map string_bytes arguments
 
 -- Some argument requests help.
 abbrev pub HasHelpWord : List (String Global) → Type 0

@@ -1,11 +1,11 @@
 //! Reads the command line.
 
-ghost use Rattle.std.specs.Prelude.{◌≡◌, ◌==◌, ◌||◌, [], None, Ok, codes, drop, find, option_map, string_bytes, IfOk};
+ghost use Rattle.std.specs.Prelude.{◌≡◌, ◌<◌, ◌==◌, ◌||◌, [], None, Ok, codes, drop, find, length, option_map, position, string_bytes, IfOk, IfSome};
 ghost use Rattle.clap.specs.Values.{kind_of};
 ghost use Rattle.clap.specs.Words.{Text as Words, found_of, rows_of, subcommand_rows_of};
 ghost use Rattle.std.specs.Vec.Iter.{into_iter_items};
-ghost use Rattle.agent_plans.specs.Plans.{IsWithinRanges, IsWithin, NamesKnown, TakesKnown};
-ghost use Rattle.command_line.specs.Arguments.{BeginsWithVersion, HasHelpWord, HasComparison, HasQuery, HasValues, HasValuesIn, IsRequestedBy, IsHelp, IsPlanOrHelp, IsShownAs, asks_first, asks_help, asks_quiet, asks_version, begins_with, ends_options, help_options, is_quiet_word};
+ghost use Rattle.agent_plans.specs.Plans.{HasLook, IsWithinRanges, IsWithin, NamesKnown, TakesKnown, look_of};
+ghost use Rattle.command_line.specs.Arguments.{BeginsWithVersion, HasHelpWord, HasComparison, HasQuery, HasValues, HasValuesIn, IsRequestedBy, IsHelp, IsPlanOrHelp, IsShownAs, asks_first, asks_help, asks_json, asks_quiet, asks_version, begins_with, choice_asked, choice_at, choice_by, choice_next, choice_of, color_choice, ends_options, help_options, is_color_word, is_json_word, is_quiet_word, may_color, reports};
 ghost use Rattle.std.specs.List.{list_any};
 ghost use Rattle.cells.specs.declared.writer.Form.TheVariants.{Text};
 ghost use Rattle.agent_plans.specs.declared.plan.Plan.TheVariants as plans;
@@ -14,11 +14,12 @@ ghost use Rattle.agent_plans.specs.declared.plan.Task.TheVariants.{Version};
 
 use crate::command_table::{KnownNames, all_commands};
 use crate::values::{
-    attest_of, boot_of, conversion_of, events_of, flag_of, key_of, known_of, log_of,
-    measurement_of, name_of, old_kernel_of, text_if_given,
+    attest_of, boot_of, conversion_of, events_of, flag_of, key_of, known_of, log_of, look_for,
+    look_of, measurement_of, name_of, old_kernel_of, text_if_given,
 };
 use agent_plans::{
-    ArgumentsFault, ComparisonKind, ComparisonOptions, Conversion, Form, Plan, Query, Scope, Task,
+    ArgumentsFault, ComparisonKind, ComparisonOptions, Conversion, Form, Look, Plan, Query, Scope,
+    Task,
 };
 use clap::error::ErrorKind;
 use clap::{ArgMatches, Error};
@@ -27,18 +28,27 @@ use ima_list::Template;
 use pcr_banks::Alg;
 use std::alloc::{AllocError, Global};
 use std::env::Args;
+use terminal_colors::ColorChoice;
 
 // What is wrong with `--print binary` beside `--json`.
 const NO_JSON_OF_BYTES: &str =
     "error: the argument '--print binary' cannot be used with '--json'\n";
 
+// What is wrong with `--summary` and `--terminal` beside `--json` and each other.
+const SUMMARY_AS_JSON: &str = "error: the argument '--summary' cannot be used with '--json'\n";
+
+const TERMINAL_AS_JSON: &str = "error: the argument '--terminal' cannot be used with '--json'\n";
+
+const SUMMARY_BESIDE_TERMINAL: &str =
+    "error: the argument '--summary' cannot be used with '--terminal'\n";
+
 // What is wrong with `--known` where no PCRs are required.
 const KNOWN_WITHOUT_REQUIRED: &str =
-    "error: the argument '--known <FILE>' cannot be used without '--require'\n";
+    "error: the argument '--known <FILE>' cannot be used without '--require', such as --require sha256:0-10\n";
 
 // What is wrong with `--old-kernel` there.
 const OLD_KERNEL_WITHOUT_REQUIRED: &str =
-    "error: the argument '--old-kernel' cannot be used without '--require'\n";
+    "error: the argument '--old-kernel' cannot be used without '--require', such as --require sha256:0-10\n";
 
 // What is wrong with `--explain` beside `--data`, and beside `--json`.
 const EXPLAINED_AS_BYTES: &str = "error: the argument '--explain' cannot be used with '--data'\n";
@@ -64,14 +74,8 @@ const STANDARD_INPUT_EARLIER: &str =
     "error: invalid value '-' for '--before <OLD_LOG>': it must be a file\n";
 
 // What is wrong with `--quote` without what is asked of a quote.
-const QUOTE_WITHOUT_LIST: &str =
-    "error: the argument '--quote <QUOTE>' cannot be used without '--list'\n";
-
-const QUOTE_WITHOUT_NONCE: &str =
-    "error: the argument '--quote <QUOTE>' cannot be used without '--nonce'\n";
-
-const QUOTE_WITHOUT_REQUIRED: &str =
-    "error: the argument '--quote <QUOTE>' cannot be used without '--require'\n";
+const QUOTE_WITHOUT_CRITERIA: &str =
+    "error: the argument '--quote <QUOTE>' cannot be used without '--list', '--nonce' and '--require'\n";
 
 // What is wrong with that without `--quote`.
 const LIST_WITHOUT_QUOTE: &str =
@@ -187,12 +191,31 @@ fn wrong_pair(matches: &ArgMatches) -> Option<&'static str> {
         return wrong_pair_of_quote(matches).or(wrong_standard_input(matches));
     }
     if let Some(matches) = matches.subcommand_matches("attest") {
-        return wrong_pair_of_signing(matches);
+        return wrong_pair_of_signing(matches).or(wrong_pair_of_look(matches));
     }
     if let Some(matches) = matches.subcommand_matches("verify") {
-        return wrong_pair_of_known(matches).or(wrong_pair_of_old_kernel(matches));
+        return wrong_pair_of_known(matches)
+            .or(wrong_pair_of_old_kernel(matches))
+            .or(wrong_pair_of_look(matches));
     }
-    wrong_pair_of_known(matches.subcommand_matches("replay")?)
+    let matches = matches.subcommand_matches("replay")?;
+    wrong_pair_of_known(matches).or(wrong_pair_of_look(matches))
+}
+
+// Whether a verdict is to be shown in two ways.
+fn wrong_pair_of_look(matches: &ArgMatches) -> Option<&'static str> {
+    let is_summary = is_set(matches, "summary");
+    let is_terminal = is_set(matches, "terminal");
+    let is_json = is_set(matches, "json");
+    if is_summary && is_json {
+        Some(SUMMARY_AS_JSON)
+    } else if is_terminal && is_json {
+        Some(TERMINAL_AS_JSON)
+    } else if is_summary && is_terminal {
+        Some(SUMMARY_BESIDE_TERMINAL)
+    } else {
+        None
+    }
 }
 
 // Whether an older kernel's boot aggregate is to be taken where no PCRs are required.
@@ -252,12 +275,11 @@ fn wrong_pair_of_quote(matches: &ArgMatches) -> Option<&'static str> {
         without_quote(matches)
     } else if matches.contains_id("expected") {
         Some(EXPECTED_BESIDE_QUOTE)
-    } else if !matches.contains_id("list") {
-        Some(QUOTE_WITHOUT_LIST)
-    } else if !matches.contains_id("nonce") {
-        Some(QUOTE_WITHOUT_NONCE)
-    } else if !matches.contains_id("require") {
-        Some(QUOTE_WITHOUT_REQUIRED)
+    } else if !(matches.contains_id("list")
+        && matches.contains_id("nonce")
+        && matches.contains_id("require"))
+    {
+        Some(QUOTE_WITHOUT_CRITERIA)
     } else {
         wrong_pair_of_signing(matches)
     }
@@ -379,15 +401,22 @@ fn task_of(
         "log" => conversion_of(alloc, matches, Conversion::Log, form),
         "show" => Ok(Task::Entries {
             list: name_of(alloc, matches, "LIST")?,
+            partial: flag_of(matches, "partial", false, true)?,
         }),
-        _ => Ok(Task::Answer(question_of(alloc, command, matches)?)),
+        _ => Ok(Task::Answer(question_of(alloc, command, matches, form)?)),
     }
 }
 
-// What the command of this name asks.
-fn question_of(alloc: Global, command: &str, matches: &ArgMatches) -> Result<Query, ArgumentsFault>
+// What the command of this name asks, whose answer is shown in this form.
+fn question_of(
+    alloc: Global,
+    command: &str,
+    matches: &ArgMatches,
+    form: Form,
+) -> Result<Query, ArgumentsFault>
     ensures values { IfOk result (HasQuery command.now (rows_of (found_of matches.now))) }
     ensures known { IfOk result NamesKnown }
+    ensures look { IfOk result (λ question. HasLook form (look_of question)) }
 {
     match command {
         "verify" => {
@@ -397,11 +426,12 @@ fn question_of(alloc: Global, command: &str, matches: &ArgMatches) -> Result<Que
                 resume: text_if_given(alloc, matches, "resume")?,
                 save: text_if_given(alloc, matches, "save")?,
             };
-            Ok(Query::Comparison(comparison_of(alloc, matches, kind)?))
+            Ok(Query::Comparison(comparison_of(alloc, matches, kind, form)?))
         }
         "locate" => {
             let log = log_of(alloc, matches)?;
-            Ok(Query::Comparison(comparison_of(alloc, matches, ComparisonKind::Positions { log })?))
+            let kind = ComparisonKind::Positions { log };
+            Ok(Query::Comparison(comparison_of(alloc, matches, kind, form)?))
         }
         "expected" => Ok(Query::Expected {
             printed: name_of(alloc, matches, "PCRREAD")?,
@@ -411,8 +441,8 @@ fn question_of(alloc: Global, command: &str, matches: &ArgMatches) -> Result<Que
         "registers" => Ok(Query::LogRegisters {
             log: log_of(alloc, matches)?,
         }),
-        "replay" => replay_of(alloc, matches),
-        "attest" => Ok(Query::Attestation(attest_of(alloc, matches)?)),
+        "replay" => replay_of(alloc, matches, form),
+        "attest" => Ok(Query::Attestation(attest_of(alloc, matches, form)?)),
         _ => Err(ArgumentsFault::Usage),
     }
 }
@@ -422,10 +452,12 @@ fn comparison_of(
     alloc: Global,
     matches: &ArgMatches,
     kind: ComparisonKind,
+    form: Form,
 ) -> Result<ComparisonOptions, ArgumentsFault>
     ensures values { IfOk result (λ judge. (command : Words) → HasComparison command (rows_of (found_of matches.now)) kind
         → HasQuery command (rows_of (found_of matches.now)) (queries.Comparison judge)) }
     ensures known { IfOk result (λ judge. NamesKnown (queries.Comparison judge)) }
+    ensures look { IfOk result (λ judge. HasLook form judge.look) }
 {
     let required = text_if_given(alloc, matches, "require")?;
     Ok(ComparisonOptions {
@@ -433,16 +465,18 @@ fn comparison_of(
         expected: name_of(alloc, matches, "EXPECTED")?,
         known: known_of(alloc, matches, &kind, &required)?,
         old_kernel: old_kernel_of(matches, &kind, &required)?,
+        look: look_for(matches, &kind, form)?,
         kind,
         required,
         explained: flag_of(matches, "explain", false, true)?,
     })
 }
 
-// What `replay` asks. Refuses `--require` and `--explain` without EXPECTED, and `--known` without `--require`.
-fn replay_of(alloc: Global, matches: &ArgMatches) -> Result<Query, ArgumentsFault>
+// What `replay` asks. Refuses `--require`, `--explain` and `--summary` without EXPECTED, and `--known` without `--require`.
+fn replay_of(alloc: Global, matches: &ArgMatches, form: Form) -> Result<Query, ArgumentsFault>
     ensures values { IfOk result (HasQuery (codes "replay") (rows_of (found_of matches.now))) }
     ensures known { IfOk result NamesKnown }
+    ensures look { IfOk result (λ question. HasLook form (look_of question)) }
 {
     let list = name_of(alloc, matches, "LIST")?;
     let expected = text_if_given(alloc, matches, "EXPECTED")?;
@@ -450,18 +484,24 @@ fn replay_of(alloc: Global, matches: &ArgMatches) -> Result<Query, ArgumentsFaul
     let kind = ComparisonKind::ListVerdict;
     let known = known_of(alloc, matches, &kind, &required)?;
     let explained = flag_of(matches, "explain", false, true)?;
-    match (expected, required, known, explained) {
-        (Some(expected), required, known, explained) => Ok(Query::Comparison(ComparisonOptions {
-            kind,
+    let look = look_of(matches, form)?;
+    match (expected, required, known, explained, look) {
+        (Some(expected), required, known, explained, look) => Ok(Query::Comparison(
+            ComparisonOptions {
+                kind,
+                list,
+                expected,
+                required,
+                known,
+                old_kernel: false,
+                explained,
+                look,
+            },
+        )),
+        (None, None, None, false, Look::Plain | Look::Terminal) => Ok(Query::ListRegisters {
             list,
-            expected,
-            required,
-            known,
-            old_kernel: false,
-            explained,
-        })),
-        (None, None, None, false) => Ok(Query::ListRegisters { list }),
-        (None, _, _, _) => Err(ArgumentsFault::Usage),
+        }),
+        (None, _, _, _, _) => Err(ArgumentsFault::Usage),
     }
 }
 
@@ -537,6 +577,132 @@ fn has_letter_q(letters: &[u8]) -> bool
     ensures { result ≡ list_any (λ letter. letter == 113) letters.now }
 {
     letters.iter().any(|letter| *letter == b'q')
+}
+
+/// When the output has colours: as the first `--color` says that follows no `--`, for a report that is no JSON; otherwise never. It does not
+/// matter whether the arguments are those of a command.
+pub fn color_choice(arguments: &[String]) -> ColorChoice
+    ensures { result ≡ color_choice arguments.now }
+{
+    if reports(arguments) && !asks_json(arguments) {
+        choice_asked(arguments)
+    } else {
+        ColorChoice::Never
+    }
+}
+
+// Whether the arguments are those of a command whose report may have colours.
+fn reports(arguments: &[String]) -> bool
+    ensures { result ≡ reports arguments.now }
+{
+    match arguments.first() {
+        None => false,
+        Some(command) => may_color(command),
+    }
+}
+
+// Whether the command of this name judges.
+fn may_color(command: &String) -> bool
+    ensures { result ≡ may_color (string_bytes command.now) }
+{
+    let name = command.as_str();
+    name == "verify" || name == "attest" || name == "replay" || name == "locate"
+}
+
+// Whether these arguments ask for JSON.
+fn asks_json(words: &[String]) -> bool
+    ensures { result ≡ asks_json words.now }
+{
+    match first_of_json(words) {
+        None => false,
+        Some(word) => is_json_word(word),
+    }
+}
+
+// The first of these arguments that is `--json`, or after which there are no options.
+fn first_of_json(words: &[String]) -> Option<&String>
+    ensures { option_map (λ word. word.now) result ≡ find (λ word. ends_options (string_bytes word) || is_json_word (string_bytes word)) words.now }
+{
+    words
+        .iter()
+        .find(|word| ends_options(word) || is_json_word(word))
+}
+
+// Whether this argument is `--json`.
+fn is_json_word(word: &String) -> bool
+    ensures { result ≡ is_json_word (string_bytes word.now) }
+{
+    word.as_str() == "--json"
+}
+
+// What the first `--color` says, unless `--` comes before it.
+fn choice_asked(words: &[String]) -> ColorChoice
+    ensures { result ≡ choice_asked words.now }
+{
+    match color_place(words) {
+        None => ColorChoice::Auto,
+        Some(place) => choice_at(words.split_at(place).1),
+    }
+}
+
+// The place of the first of these arguments that asks for colours, or after which there are no options.
+fn color_place(words: &[String]) -> Option<usize>
+    ensures value { result ≡ position (λ word. ends_options (string_bytes word) || is_color_word (string_bytes word)) words.now }
+    ensures within { IfSome result (λ place. place < length words.now) }
+{
+    words
+        .iter()
+        .position(|word| ends_options(word) || is_color_word(word))
+}
+
+// Whether this argument is `--color`, alone or with its value.
+fn is_color_word(word: &String) -> bool
+    ensures { result ≡ is_color_word (string_bytes word.now) }
+{
+    word.as_str() == "--color" || word.as_bytes().starts_with(b"--color=")
+}
+
+// What the first of these arguments says of colours.
+fn choice_at(words: &[String]) -> ColorChoice
+    ensures { result ≡ choice_at words.now }
+{
+    match words.split_first() {
+        None => ColorChoice::Auto,
+        Some((word, rest)) => choice_by(word, rest),
+    }
+}
+
+// What this argument says of colours, before these.
+fn choice_by(word: &String, rest: &[String]) -> ColorChoice
+    ensures { result ≡ choice_by (string_bytes word.now) rest.now }
+{
+    match word.as_str() {
+        "--color=always" => ColorChoice::Always,
+        "--color=never" => ColorChoice::Never,
+        "--color" => choice_next(rest),
+        _ => ColorChoice::Auto,
+    }
+}
+
+// What follows `--color`.
+fn choice_next(words: &[String]) -> ColorChoice
+    ensures { result ≡ choice_next words.now }
+{
+    match words.first() {
+        None => ColorChoice::Auto,
+        Some(word) => choice_of(word),
+    }
+}
+
+// The choice of this name. (`read_words` refuses others.)
+fn choice_of(name: &String) -> ColorChoice
+    ensures { result ≡ choice_of (string_bytes name.now) }
+{
+    match name.as_str() {
+        "always" => ColorChoice::Always,
+        "never" => ColorChoice::Never,
+        _ => ColorChoice::Auto,
+    }
 }
 
 // Whether this argument requests the version: it is `--version`, or short options that begin with `-V`.

@@ -143,8 +143,18 @@ const RESUME: ArgumentRow<'static> = row!("resume"; ArgumentForm::Optional("FILE
 /// Whether standard error says what to do next even if it is no terminal.
 const EXPLAIN: ArgumentRow<'static> = row!("explain"; ArgumentForm::Flag);
 
+/// Whether one line is printed in place of the report.
+const SUMMARY: ArgumentRow<'static> = row!("summary"; ArgumentForm::Flag);
+
+/// Whether the report is printed as on a terminal.
+const TERMINAL: ArgumentRow<'static> = row!("terminal"; ArgumentForm::Flag);
+
 /// Whether the H-CRTM's event says where the machine started.
 const HCRTM: ArgumentRow<'static> = row!("hcrtm"; ArgumentForm::Flag);
+
+/// When the result is coloured.
+const COLOR: ArgumentRow<'static> =
+    row!("color"; ArgumentForm::Defaulted("WHEN", "auto", Values::Parsed(ValueParser::Names(&["auto", "always", "never"]))));
 
 /// Whether the result is printed as JSON.
 const JSON: ArgumentRow<'static> = row!("json"; ArgumentForm::Flag);
@@ -158,8 +168,8 @@ static COMMANDS: [CommandRow; 13] = [
         name: "verify",
         about: with_abouts!(; verify),
         arguments: &[
-            REQUIRE, OLD_KERNEL, KNOWN, PREFIX, SAVE, RESUME, HCRTM, EXPLAIN, JSON, QUIET, LOG,
-            LIST, EXPECTED,
+            REQUIRE, OLD_KERNEL, KNOWN, PREFIX, SAVE, RESUME, HCRTM, EXPLAIN, SUMMARY, TERMINAL,
+            COLOR, JSON, QUIET, LOG, LIST, EXPECTED,
         ],
     },
     CommandRow {
@@ -179,6 +189,9 @@ static COMMANDS: [CommandRow; 13] = [
             RESUME,
             HCRTM,
             EXPLAIN,
+            SUMMARY,
+            TERMINAL,
+            COLOR,
             JSON,
             QUIET,
             LOG,
@@ -194,6 +207,9 @@ static COMMANDS: [CommandRow; 13] = [
             row!("require"; ArgumentForm::OptionalBeside("SELECTION", "EXPECTED")),
             KNOWN,
             row!("explain"; ArgumentForm::FlagBeside("EXPECTED")),
+            row!("summary"; ArgumentForm::FlagBeside("EXPECTED")),
+            TERMINAL,
+            COLOR,
             JSON,
             QUIET,
             LIST,
@@ -203,7 +219,9 @@ static COMMANDS: [CommandRow; 13] = [
     CommandRow {
         name: "locate",
         about: with_abouts!(; locate),
-        arguments: &[REQUIRE, HCRTM, EXPLAIN, JSON, QUIET, LOG, LIST, EXPECTED],
+        arguments: &[
+            REQUIRE, HCRTM, EXPLAIN, COLOR, JSON, QUIET, LOG, LIST, EXPECTED,
+        ],
     },
     CommandRow {
         name: "boot",
@@ -251,7 +269,7 @@ static COMMANDS: [CommandRow; 13] = [
     CommandRow {
         name: "show",
         about: with_abouts!(; show),
-        arguments: &[JSON, QUIET, LIST],
+        arguments: &[row!("partial"; ArgumentForm::Flag), JSON, QUIET, LIST],
     },
     CommandRow {
         name: "registers",

@@ -228,6 +228,10 @@ pub(crate) fn help_of<'a>(command: &str, id: &str) -> &'a str {
         "known" => help_of_known(command),
         "hcrtm" => "Start PCR 0 at 4 if LOG has an H-CRTM event",
         "explain" => help_of_explain(command),
+        "color" => "When the verdict and states have colours\n",
+        "summary" => help_of_summary(command),
+        "terminal" => "Print PCRs at reset last, and marked, as on a terminal",
+        "partial" => "Print the entries before an error, as --json does",
         "json" => help_of_json(command),
         "quiet" => "Print nothing on standard error",
         "nonce" => "The quote's nonce in hexadecimal, at least 16 bytes",
@@ -300,9 +304,8 @@ fn help_of_known<'a>(command: &str) -> &'a str {
     match command {
         "attest" => "sha256sum file that new entries must match; several times",
         _ => "\
-Every new entry must match a digest listed in FILE, as
-sha256sum prints it. May be given several times; only
-with --require",
+sha256sum file that new entries must match; several
+times, only with --require",
     }
 }
 
@@ -316,6 +319,16 @@ was measured; not with --data or --json",
 After a difference, say what to do, even off a terminal.
 Only with EXPECTED",
         _ => "After a difference, say what to do, even off a terminal",
+    }
+}
+
+// The help of --summary.
+fn help_of_summary<'a>(command: &str) -> &'a str {
+    match command {
+        "replay" => "\
+Print one line: verdict, first reason and counts. Only with
+EXPECTED",
+        _ => "Print one line: verdict, first reason and counts",
     }
 }
 
@@ -341,9 +354,7 @@ fn help_of_verdict<'a>(command: &str, id: &str) -> &'a str {
         (_, "prefix") => "Judge the shortest prefix of LIST that matches",
         (_, "save") => "If the verdict is `match`, write a checkpoint to FILE",
         ("attest", _) => "LIST continues your own checkpoint of this boot in FILE",
-        _ => "\
-Continue from your own checkpoint in FILE: LIST has
-only the bytes after it",
+        _ => "LIST continues your own checkpoint in FILE",
     }
 }
 

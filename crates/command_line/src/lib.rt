@@ -4,6 +4,8 @@
 mod arguments;
 mod command_table;
 mod help_texts;
+mod on_terminal;
 mod values;
 
-pub use arguments::{arguments_after_name, asks_quiet, read_words, refusal_of};
+pub use arguments::{arguments_after_name, asks_quiet, color_choice, read_words, refusal_of};
+pub use on_terminal::as_on_terminal;

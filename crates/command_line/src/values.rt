@@ -2,13 +2,13 @@
 
 ghost use Rattle.std.specs.Prelude.{◌≡◌, ◌<◌, ◌≤◌, ◌^◌, [], false, true, Some, codes, map, string_bytes, unwrap_or, vec_len, IfOk};
 ghost use Rattle.clap.specs.Words.{all_of, first_of, found_of, rows_of};
-ghost use Rattle.agent_plans.specs.Plans.{HasForm, IsWithin, IsWithinLimits, TakesKnown};
-ghost use Rattle.command_line.specs.Arguments.{AreFurtherNames, AreGivenAs, HasAttestOptions, HasBytes, HasLog, HasMeasure, HasNoQuoting, HasNumber, HasQuery, HasQuoting, HasValues, IsConfirmedBy, IsDataShown, IsFlag, IsGivenAs, IsSignedAs, TakesOld, conversion_name, is_dash, part_name, print_name, reads_earlier, reads_twice};
+ghost use Rattle.agent_plans.specs.Plans.{HasForm, HasLook, IsWithin, IsWithinLimits, TakesKnown};
+ghost use Rattle.command_line.specs.Arguments.{AreFurtherNames, AreGivenAs, HasAttestOptions, HasBytes, HasLog, HasMeasure, HasNoQuoting, HasNumber, HasQuery, HasQuoting, HasValues, IsConfirmedBy, IsDataShown, IsFlag, IsGivenAs, IsLook, IsSignedAs, TakesLook, TakesOld, conversion_name, is_dash, part_name, print_name, reads_earlier, reads_twice};
 
 use crate::command_table::{MOST_RECORDS, MOST_WORKERS};
 use agent_plans::{
     ArgumentsFault, AttestOptions, ComparisonKind, ConfirmedBy, Conversion, DataShown, Form,
-    LogFile, Measurement, NameEnd, Names, Print, Query, Quoting, Scope, SigningOptions, Task,
+    LogFile, Look, Measurement, NameEnd, Names, Print, Query, Quoting, Scope, SigningOptions, Task,
 };
 use clap::ArgMatches;
 use hex::FromHexError;
@@ -232,8 +232,10 @@ fn data_of(matches: &ArgMatches) -> Result<DataShown, ArgumentsFault>
 pub(crate) fn attest_of(
     alloc: Global,
     matches: &ArgMatches,
+    form: Form,
 ) -> Result<AttestOptions, ArgumentsFault>
-    ensures { IfOk result (HasAttestOptions (rows_of (found_of matches.now))) }
+    ensures values { IfOk result (HasAttestOptions (rows_of (found_of matches.now))) }
+    ensures look { IfOk result (λ attest. HasLook form attest.look) }
 {
     let quote = name_of(alloc, matches, "QUOTE")?;
     Ok(AttestOptions {
@@ -245,7 +247,38 @@ pub(crate) fn attest_of(
         resume: text_if_given(alloc, matches, "resume")?,
         save: text_if_given(alloc, matches, "save")?,
         explained: flag_of(matches, "explain", false, true)?,
+        look: look_of(matches, form)?,
     })
+}
+
+/// How a comparison of this kind is shown in this form: positions only as they are.
+pub(crate) fn look_for(
+    matches: &ArgMatches,
+    kind: &ComparisonKind,
+    form: Form,
+) -> Result<Look, ArgumentsFault>
+    ensures flags { IfOk result (TakesLook (rows_of (found_of matches.now)) kind.now) }
+    ensures form { IfOk result (HasLook form) }
+{
+    match kind {
+        ComparisonKind::Positions { .. } => Ok(Look::Plain),
+        ComparisonKind::Verdict { .. } | ComparisonKind::ListVerdict => look_of(matches, form),
+    }
+}
+
+/// How a verdict is shown in this form. Refuses `--terminal` with `--summary`, and either with JSON.
+pub(crate) fn look_of(matches: &ArgMatches, form: Form) -> Result<Look, ArgumentsFault>
+    ensures flags { IfOk result (IsLook (rows_of (found_of matches.now))) }
+    ensures form { IfOk result (HasLook form) }
+{
+    let is_terminal = flag_of(matches, "terminal", false, true)?;
+    let is_summary = flag_of(matches, "summary", false, true)?;
+    match (is_terminal, is_summary, form) {
+        (false, false, _) => Ok(Look::Plain),
+        (true, false, Form::Text) => Ok(Look::Terminal),
+        (false, true, Form::Text) => Ok(Look::Summary),
+        _ => Err(ArgumentsFault::Usage),
+    }
 }
 
 /// What `key` asks.

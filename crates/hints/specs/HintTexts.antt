@@ -1,5 +1,5 @@
 -- What a person is told to do next. No line advises to expect or to require less.
-use Rattle.std.specs.Prelude.{ℕ, ◌++◌, ◌∷◌, ◌&&◌, ◌||◌, Bool, true, false, if◌then◌else◌, List, [], codes, decimal, Option, None, Some, option_map, is_some}
+use Rattle.std.specs.Prelude.{ℕ, ◌++◌, ◌∷◌, ◌&&◌, ◌||◌, Bool, if◌then◌else◌, List, [], codes, decimal, Option, None, Some, option_map, is_some}
 use Rattle.pcr_banks.specs.Names.{name_of}
 use Rattle.pcr_values.specs.declared.expected.Expected.{Expected}
 use Rattle.attestations.specs.declared.expected.ExpectedValues.{ExpectedValues}
@@ -104,9 +104,9 @@ last_words OldAggregate = codes "the boot aggregate covers only PCRs 0 to 7, as 
 last_words NoAggregateBank = codes "LOG has no bank for the boot aggregate, so nothing shows that log and list are from the same boot"
 last_words NoAggregate =
     codes "entry 0 is not a boot aggregate: the list lacks its beginning, has another template, or was changed; with --require, the boot aggregate may also have the template ima-ngv2, ima-sigv2 or ima-modsig"
-last_words (ListDiffers Sha1) = codes " PCR 10 differs: it was read at a different time than LIST, or an entry is missing or was changed"
+last_words (ListDiffers Sha1) = codes " PCR 10 differs: read it and LIST again at the same time; if it still differs, an entry is missing or was changed"
 last_words (ListDiffers alg) =
-    codes " PCR 10 differs: it was read at a different time than LIST, a kernel before 5.8 extended it with zero-padded SHA-1 digests, or an entry is missing or was changed"
+    codes " PCR 10 differs: read it and LIST again at the same time; if it still differs, a kernel before 5.8 extended it with zero-padded SHA-1 digests, or an entry is missing or was changed"
 last_words NotExpected = codes "add EXPECTED, the values read with the quote: its rows show which PCR differs"
 last_words NotQuoted = codes "EXPECTED is not what the TPM signed: give the values read with the quote"
 last_words (EventOfList event) = codes " extends PCR 10, which only the list should: log and list cannot be told apart"
@@ -168,4 +168,4 @@ mistake_words mistakes.ListForText = codes "it is the binary list, which needs n
 mistake_words mistakes.PrintedForExpected = codes "it is tpm2-tools output: convert it to EXPECTED with ima-agent expected"
 mistake_words mistakes.ExpectedForPrinted = codes "it is EXPECTED already: give it to ima-agent verify as it is"
 mistake_words mistakes.Capitals = codes "its banks are in capital letters: write sha256, not SHA256"
-mistake_words mistakes.PemForArea = codes "it is PEM text: give the public area as tpm2_createak -u writes it"
+mistake_words mistakes.PemForArea = codes "it is PEM text: give the public area as tpm2_createak -u writes it, or this text to attest --key"

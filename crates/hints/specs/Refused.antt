@@ -7,7 +7,6 @@ use Rattle.agent_plans.specs.declared.plan.ConfirmedBy.{ConfirmedBy}
 use Rattle.agent_plans.specs.declared.plan.ConfirmedBy.TheVariants as confirmed
 use Rattle.agent_plans.specs.declared.plan.ComparisonKind.{ComparisonKind}
 use Rattle.agent_plans.specs.declared.plan.ComparisonKind.TheVariants as kinds
-use Rattle.agent_plans.specs.declared.plan.Query.{Query}
 use Rattle.agent_plans.specs.declared.plan.Query.TheVariants as queries
 use Rattle.agent_plans.specs.declared.plan.Quoting.{Quoting}
 use Rattle.agent_plans.specs.declared.plan.Task.{Task}
@@ -63,7 +62,7 @@ converted_of task = None
 abbrev pub list_of : Task → Option (List ℕ)
 list_of (tasks.Answer (queries.Comparison judge)) = Some (string_bytes judge.list)
 list_of (tasks.Answer (queries.ListRegisters list)) = Some (string_bytes list)
-list_of (tasks.Entries list) = Some (string_bytes list)
+list_of (tasks.Entries list partial) = Some (string_bytes list)
 list_of task = option_map (λ quoting. string_bytes quoting.list) (quoting_of task)
 
 abbrev pub expected_in : ConfirmedBy → Option (List ℕ)

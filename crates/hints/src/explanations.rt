@@ -27,6 +27,10 @@ const TOO_MANY_FILES: &str = "error: 2^32 files or more";
 /// What is wrong with an argument that the program cannot take.
 const NOT_UTF8: &str = "an argument is not UTF-8: rename the file, or give a link to it";
 
+/// What is wrong with `-` where it is no standard input.
+const NO_STANDARD_INPUT: &str =
+    "cannot read -: here it is the name of a file: give /dev/stdin for standard input";
+
 /// What is wrong if the output's device fails.
 const NOT_WRITTEN: &str =
     "the output could not be written: the disk is full, or the program that reads it has exited";
@@ -80,6 +84,7 @@ fn of_fault<R: FileSystem + io::Input>(
                 &format!(in alloc; "cannot read {name}: it is not a regular file: copy it to one")?,
             )
         }
+        RunFault::Read(name) if name.as_str() == "-" => shown_line(alloc, NO_STANDARD_INPUT),
         RunFault::Read(name) => of_reason(alloc, name, open_reason(rt, name)),
         RunFault::TooLong(_) if is_standard_input(task, fault) => {
             // The fault has no name to tell standard input by.
@@ -182,7 +187,7 @@ fn of_policy(alloc: Global, quoting: &Quoting) -> Result<String, AllocError> {
         Some(PolicyFault::ShortNonce) => {
             let nonce = hex::encode(alloc, &quoting.nonce)?;
             format!(in alloc;
-                "error: invalid value '{nonce}' for '--nonce <HEX>': a nonce has at least 16 bytes, which is 32 hexadecimal digits"
+                "error: invalid value '{nonce}' for '--nonce <HEX>': a nonce has at least 16 bytes, which is 32 hexadecimal digits: give all of the nonce that was sent"
             )
         }
         Some(PolicyFault::NotRequired { register }) => format!(in alloc;

@@ -336,10 +336,10 @@ const NO_AGGREGATE: &str =
     "entry 0 is not a boot aggregate: the list lacks its beginning, has another template, or was changed; with --require, the boot aggregate may also have the template ima-ngv2, ima-sigv2 or ima-modsig";
 
 const LIST_DIFFERS: &str =
-    " PCR 10 differs: it was read at a different time than LIST, or an entry is missing or was changed";
+    " PCR 10 differs: read it and LIST again at the same time; if it still differs, an entry is missing or was changed";
 
 const LIST_DIFFERS_OR_PADDED: &str =
-    " PCR 10 differs: it was read at a different time than LIST, a kernel before 5.8 extended it with zero-padded SHA-1 digests, or an entry is missing or was changed";
+    " PCR 10 differs: read it and LIST again at the same time; if it still differs, a kernel before 5.8 extended it with zero-padded SHA-1 digests, or an entry is missing or was changed";
 
 const NOT_EXPECTED: &str =
     "add EXPECTED, the values read with the quote: its rows show which PCR differs";
@@ -513,6 +513,7 @@ fn mistake_words(mistake: Mistake) -> &'static str
         Mistake::ExpectedForPrinted =>
             "it is EXPECTED already: give it to ima-agent verify as it is",
         Mistake::Capitals => "its banks are in capital letters: write sha256, not SHA256",
-        Mistake::PemForArea => "it is PEM text: give the public area as tpm2_createak -u writes it",
+        Mistake::PemForArea =>
+            "it is PEM text: give the public area as tpm2_createak -u writes it, or this text to attest --key",
     }
 }

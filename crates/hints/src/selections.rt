@@ -17,7 +17,7 @@ const GRAMMAR: &str =
 
 /// What is wrong if PCR 10 is not selected.
 const LACKS_PCR_10: &str =
-    "PCR 10 is not selected in any bank, so the list would not be checked: add it, as in sha256:0-10";
+    "PCR 10 is not selected in any bank, so the list would not be checked: add it, as in sha256:0-10, or sha256:10 for a list alone";
 
 /// Why this text spells no requirement.
 pub(crate) fn of_requirement(alloc: Global, text: &str) -> Result<String, AllocError> {

@@ -245,7 +245,7 @@ pub(crate) fn list_of(task: &Task) -> Option<&str>
     match task {
         Task::Answer(Query::Comparison(ComparisonOptions { list, .. }))
         | Task::Answer(Query::ListRegisters { list })
-        | Task::Entries { list } => Some(list.as_str()),
+        | Task::Entries { list, .. } => Some(list.as_str()),
         _ => Some(quoting_of(task)?.list.as_str()),
     }
 }

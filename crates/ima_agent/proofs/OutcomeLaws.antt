@@ -1,5 +1,5 @@
 -- What was sent is what is asked for, and is answered with its status.
-use Rattle.std.proofs.Common.{◌≡◌, ℕ, ◌+◌, Bool, List, [], ◌∷◌, ◌++◌, Result, Ok, Err, refl, sym, ap, ◌∙◌, append_assoc, append-nil, inl, inr}
+use Rattle.std.proofs.Common.{◌≡◌, ℕ, ◌+◌, Bool, false, List, [], ◌∷◌, ◌++◌, Result, Ok, Err, refl, sym, ap, ◌∙◌, append_assoc, append-nil, inl, inr}
 use Rattle.std.proofs.lemmas.List.Concat.{flat_map-cons}
 use Rattle.std.specs.Prelude.{flat_map, IfErr, IfOk, OnErr, Option, None, Some, String, string_bytes}
 use Rattle.std.specs.Global.{Global}
@@ -30,7 +30,7 @@ use Rattle.measured_data.specs.declared.confirmed.Pcr.{Pcr}
 use Rattle.ima_agent.specs.Matching.{AreMatched, IsKnownFor, opened_log}
 use Rattle.ima_list.specs.Names.{ListEntry, line_of}
 use Rattle.entry_lines.specs.ListLines.{entry_line}
-use Rattle.ima_agent.specs.Showing.{AreAllEntries, IsReported, ShowsEntriesOf, ShowsSoundList, entry_lines, numbered_lines}
+use Rattle.ima_agent.specs.Showing.{AreAllEntries, IsReported, ShowsEntriesOf, ShowsSoundList, entry_lines, numbered_lines, reads_first}
 use Rattle.ima_agent.specs.ShowingEvents.{Form, ShowsEventsIn, ShowsPlainEventsIn, ShowsToldOf, plain_lines}
 
 -- A sink that failed in a text did not take more.
@@ -112,13 +112,15 @@ module _ (inputs : Inputs) (log : LogFile) (requested : DataShown) (confirmed_by
     told_outcome text status (inl (known, (matched, done, are, shown))) = events_outcome known matched done are text status shown
     told_outcome text status (inr (fault, none, failure)) = inr (inl (fault, inr (bytes, held, rw is none), failure, kept))
 
-pub entries_outcome : (inputs : Inputs) (list : String Global) (old new : ReplacedFiles) → new ≡ old → (text : List ℕ) (status : ℕ)
-    → ShowsEntriesOf Json inputs (string_bytes list) text status → IsOutcome inputs (tasks.Entries list) Json old new text status
-entries_outcome inputs list old new kept text status (inl ((bytes, held, all), done)) = inl ((bytes, held, inl (all, done)), kept)
-entries_outcome inputs list old new kept text status (inr (begun, fault, line, inl (bytes, held, fails), reported, is)) =
-    inl ((bytes, held, inr (begun, fault, line, fails, reported, is)), kept)
-entries_outcome inputs list old new kept text status (inr (begun, fault, line, inr breaks, reported, is)) =
-    inr (inr ((begun, fault, line, breaks, reported, is), kept))
+pub entries_outcome : (inputs : Inputs) (list : String Global) (partial : Bool) (form : Form) (old new : ReplacedFiles) → reads_first form partial ≡ false
+    → new ≡ old → (text : List ℕ) (status : ℕ)
+    → ShowsEntriesOf form inputs (string_bytes list) text status → IsOutcome inputs (tasks.Entries list partial) form old new text status
+entries_outcome inputs list partial form old new read kept text status (inl ((bytes, held, all), done)) =
+    inl (rw read (bytes, held, inl (all, done)), kept)
+entries_outcome inputs list partial form old new read kept text status (inr (begun, fault, line, inl (bytes, held, fails), reported, is)) =
+    inl (rw read (bytes, held, inr (begun, fault, line, fails, reported, is)), kept)
+entries_outcome inputs list partial form old new read kept text status (inr (begun, fault, line, inr breaks, reported, is)) =
+    inr (inr (rw read (begun, fault, line, breaks, reported, is), kept))
 
 -- The lines of entries as text.
 text_lines : (number : ℕ) (entries : List ListEntry) → numbered_lines (entry_line (Some Text)) number entries ≡ flat_map line_of entries
@@ -127,7 +129,7 @@ text_lines number (first ∷ entries) =
     ap (λ (t : List ℕ). line_of first ++ t) (text_lines (number + 1) entries) ∙ sym (flat_map-cons line_of first entries)
 
 pub sound_outcome : (inputs : Inputs) (list : String Global) (old new : ReplacedFiles) → new ≡ old → (text : List ℕ) (status : ℕ)
-    → ShowsSoundList inputs (string_bytes list) text status → IsOutcome inputs (tasks.Entries list) Text old new text status
+    → ShowsSoundList inputs (string_bytes list) text status → IsOutcome inputs (tasks.Entries list false) Text old new text status
 sound_outcome inputs list old new kept text status (inl (whole, inl ((bytes, held, all), done))) =
     let as_text : AreAllEntries (flat_map line_of) bytes text = record {
       entries = all.entries;

@@ -1,9 +1,8 @@
 -- What the program is asked for, sends and returns.
-use Rattle.std.specs.Prelude.{◌≡◌, ℕ, ◌⊎◌, List, [], flat_map, string_bytes, ◌++◌, None, Some, option_map, Result, Ok, Err, String}
+use Rattle.std.specs.Prelude.{◌≡◌, ℕ, ◌⊎◌, List, [], string_bytes, ◌++◌, None, Some, option_map, Result, Ok, Err, String}
 use Rattle.std.specs.Global.{Global, Vec}
 use Rattle.byte_streams.specs.declared.streams.Failed.{Failed}
 use Rattle.byte_streams.specs.Streams.{SinkState, Sends}
-use Rattle.ima_list.specs.Names.{line_of}
 use Rattle.agent_inputs.specs.declared.fault.RunFault.{RunFault}
 use Rattle.agent_inputs.specs.declared.fault.RunFault.TheVariants as runs
 use Rattle.agent_inputs.specs.Faults.{IsArgumentsFault, fault_of_list}
@@ -14,7 +13,7 @@ use Rattle.cells.specs.declared.writer.Form.TheVariants as forms
 use Rattle.agent_plans.specs.declared.plan.Plan.{Plan}
 use Rattle.agent_plans.specs.declared.plan.Task.{Task}
 use Rattle.agent_plans.specs.declared.plan.Task.TheVariants as tasks
-use Rattle.agent_plans.specs.Plans.{IsWithinRanges, task_of}
+use Rattle.agent_plans.specs.Plans.{IsWithinRanges, look_of, task_of}
 use Rattle.command_line.specs.Arguments.{IsRequestedBy}
 use Rattle.measuring.specs.declared.file_book.Measured.{Measured}
 use Rattle.measuring.specs.Measuring.{IsMeasured, IsMeasuringFault}
@@ -28,7 +27,7 @@ use Rattle.rendering.specs.FaultTexts.{fault_line, fault_status, IsFailure, IsRe
 use Rattle.judging.specs.Queries.{known_by, requested_by, save_by}
 use Rattle.ima_agent.specs.Converting.{IsConverted, IsNotConverted}
 use Rattle.ima_agent.specs.Matching.{opened_log}
-use Rattle.ima_agent.specs.Showing.{AreAllEntries, BreaksOffAfterEntries, EndsWithFault, IsNoneInFile, IsRefusedFor, IsReported, IsWholeList, ShowsEntries, ShowsHexadecimal, StopsInFile, version_text}
+use Rattle.ima_agent.specs.Showing.{IsFaultOfList, IsListBrokenOff, IsRefusedFor, ShowsHexadecimal, ShowsListOf, reads_first, version_text}
 use Rattle.ima_agent.specs.ShowingBoot.{IsNoBootFor, ShowsBoot}
 use Rattle.ima_agent.specs.ShowingEvents.{BreaksOffAfterEvents, IsNoneShownFor, ShowsEvents, plain_lines}
 
@@ -47,10 +46,7 @@ Shows inputs (tasks.Boot log confirmed_by before) form shown status =
     (λ bytes. ShowsBoot inputs form confirmed_by log.hcrtm (option_map string_bytes before) bytes shown status)
 Shows inputs (tasks.Convert input conversion) form shown status =
     OfInput inputs (opened_name (string_bytes input)) (λ content. IsConverted conversion content shown) × (status ≡ 0)
-Shows inputs (tasks.Entries list) forms.Text shown status =
-    OfInput inputs (Some (string_bytes list)) (λ bytes. AreAllEntries (flat_map line_of) bytes shown) × (status ≡ 0)
-Shows inputs (tasks.Entries list) forms.Json shown status =
-    OfInput inputs (Some (string_bytes list)) (λ bytes. ShowsEntries bytes shown status)
+Shows inputs (tasks.Entries list partial) form shown status = ShowsListOf (reads_first form partial) form inputs (string_bytes list) shown status
 Shows inputs (tasks.Help text) form shown status = (shown ≡ string_bytes text) × (status ≡ 0)
 Shows inputs tasks.Version form shown status = (shown ≡ version_text) × (status ≡ 0)
 
@@ -58,11 +54,11 @@ Shows inputs tasks.Version form shown status = (shown ≡ version_text) × (stat
 -- is answered; with any other output nothing is saved.
 abbrev pub IsOutputFor : Inputs → Task → Form → ReplacedFiles → ReplacedFiles → List ℕ → ℕ → Type 0
 IsOutputFor inputs (tasks.Answer question) form old new shown status =
-    ShowsAnswer inputs (requested_by question) (save_by question) form old new shown status
+    ShowsAnswer inputs (requested_by question) (save_by question) form (look_of question) old new shown status
 IsOutputFor inputs task form old new shown status = Shows inputs task form shown status × (new ≡ old)
 
--- The fault may come of the task in this form, with these inputs. As JSON, any list is shown as far as it goes; and so is a damaged log, unless
--- registers are compared. Memory may run out for the names of known files, if there are some.
+-- The fault may come of the task in this form, with these inputs. As JSON, or where this is asked for, any list is shown as far as it goes; as JSON
+-- so is a damaged log, unless registers are compared. Memory may run out for the names of known files, if there are some.
 abbrev pub IsFaultOf : Inputs → Task → Form → RunFault → Type 0
 IsFaultOf inputs tasks.Registers form fault = IsInputFault inputs None fault ⊎ OfInput inputs None (λ text. IsRefusedFor text fault)
 IsFaultOf inputs (tasks.Answer question) form fault =
@@ -79,21 +75,17 @@ IsFaultOf inputs (tasks.Boot log confirmed_by before) form fault =
 IsFaultOf inputs (tasks.Convert input conversion) form fault =
     IsInputFault inputs (opened_name (string_bytes input)) fault
     ⊎ OfInput inputs (opened_name (string_bytes input)) (λ content. IsNotConverted conversion content fault)
-IsFaultOf inputs (tasks.Entries list) forms.Text fault =
-    IsNoneInFile inputs (string_bytes list) fault
+IsFaultOf inputs (tasks.Entries list partial) form fault = IsFaultOfList (reads_first form partial) inputs (string_bytes list) fault
 IsFaultOf inputs task form fault = ⊥
 
--- The output of a task that is written while its input is read, if it fails in between: what was read till then, and then the fault. As text that
--- comes only of a list that had none when it was read through before.
+-- The output of a task that is written while its input is read, if it fails in between: what was read till then, and then the fault. A list that is
+-- read through before had none then.
 abbrev pub IsBrokenOff : Inputs → Task → Form → List ℕ → ℕ → Type 0
 IsBrokenOff inputs (tasks.Events log requested confirmed_by) form text status =
     OfReplayed inputs (opened_log log) log.hcrtm (λ bytes.
     BreaksOffAfterEvents inputs form (plain_lines form requested) confirmed_by bytes text status)
-IsBrokenOff inputs (tasks.Entries list) forms.Json text status =
-    EndsWithFault (BreaksOffAfterEntries (Some forms.Json) inputs (string_bytes list)) IsReportedAsJson text status
-IsBrokenOff inputs (tasks.Entries list) forms.Text text status =
-    IsWholeList inputs (string_bytes list)
-    × EndsWithFault (StopsInFile (Some forms.Text) inputs (string_bytes list)) (IsReported forms.Text) text status
+IsBrokenOff inputs (tasks.Entries list partial) form text status =
+    IsListBrokenOff (reads_first form partial) form inputs (string_bytes list) text status
 IsBrokenOff inputs task form text status = ⊥
 
 -- The text to be written for the task, the status if the sink takes it all, and what was saved before and after: the task's output, with

@@ -1,8 +1,8 @@
 -- What the tasks show that ask no question: the registers and the events of a log, the entries of a list, the version.
-use Rattle.std.specs.Prelude.{◌≡◌, ℕ, ◌≤◌, ◌⊎◌, ◌==◌, ◌||◌, not, Bool, List, ◌++◌, codes, filter, length, Option, Some, Ok, Err, IsErr}
+use Rattle.std.specs.Prelude.{◌≡◌, ℕ, ◌≤◌, ◌⊎◌, ◌==◌, ◌||◌, not, Bool, true, false, List, ◌++◌, codes, filter, flat_map, length, Option, Some, Ok, Err, IsErr}
 use Rattle.hex.specs.Hex.{decode_of}
 use Rattle.ima_list.specs.declared.fault.ListFault.{ListFault}
-use Rattle.ima_list.specs.Names.{BeginsWith, IsReading, ListEntry}
+use Rattle.ima_list.specs.Names.{BeginsWith, IsReading, ListEntry, line_of}
 pub use Rattle.cells.specs.ItemLines.{numbered_lines, EndsWithFault}
 pub use Rattle.entry_lines.specs.ListLines.{entry_lines, list_lines, AreAllEntries, FailsAfterEntries}
 use Rattle.entry_lines.specs.SentEntries.{AreAllIn}
@@ -65,11 +65,16 @@ ShowsToFault done AreAll Fails IsLine shown status = (AreAll shown × (status �
 
 -- ---- entries
 
--- What can be read of the bytes as a list is shown as JSON, and at the end of a list how many entries it has.
-abbrev pub ShowsEntries : List ℕ → List ℕ → ℕ → Type 0
-ShowsEntries list shown status =
-    ShowsToFault 0 (AreAllEntries (list_lines (Some Json)) list) (FailsAfterEntries (entry_lines (Some Json)) fault_of_list list)
-    IsReportedAsJson shown status
+-- What can be read of the bytes as a list is shown in this form; as JSON, at the end of a list, also how many entries it has.
+abbrev pub ShowsEntries : Form → List ℕ → List ℕ → ℕ → Type 0
+ShowsEntries form list shown status =
+    ShowsToFault 0 (AreAllEntries (list_lines (Some form)) list) (FailsAfterEntries (entry_lines (Some form)) fault_of_list list)
+    (IsReported form) shown status
+
+-- A list is read through for a fault before its entries are shown: as text, unless those before one are asked for.
+abbrev pub reads_first : Form → Bool → Bool
+reads_first Text partial = not partial
+reads_first Json partial = false
 
 -- Why no more entries of the file of this name are shown, of which the bytes `came` were read. It could not be opened or read, or it is
 -- longer than an input may be and its first bytes came, as many as one may have: then these are all entries of what came, of which none was refused (how much of a file
@@ -109,7 +114,7 @@ abbrev pub ShowsEntriesOf : Form → Inputs → List ℕ → List ℕ → ℕ �
 ShowsEntriesOf form inputs name shown status =
     ShowsToFault 0 (AreAllInFile (Some form) inputs name) (StopsInFile (Some form) inputs name) (IsReported form) shown status
 
--- ---- a list that is read through before its lines are sent
+-- ---- a list that is read through before its lines are sent, or not
 
 -- The file of this name is a list, no longer than an input may be.
 abbrev pub IsWholeList : Inputs → List ℕ → Type 0
@@ -125,3 +130,21 @@ abbrev pub ShowsSoundList : Inputs → List ℕ → List ℕ → ℕ → Type 0
 ShowsSoundList inputs name shown status =
     (IsWholeList inputs name × ShowsEntriesOf Text inputs name shown status)
     ⊎ ((fault : RunFault) × IsNoneInFile inputs name fault × IsReported Text fault shown status)
+
+-- The list in the file of this name is shown in this form: all of it as text, if it is read through before; if not, as far as it can be read.
+abbrev pub ShowsListOf : Bool → Form → Inputs → List ℕ → List ℕ → ℕ → Type 0
+ShowsListOf true form inputs name shown status =
+    OfInput inputs (Some name) (λ bytes. AreAllEntries (flat_map line_of) bytes shown) × (status ≡ 0)
+ShowsListOf false form inputs name shown status = OfInput inputs (Some name) (λ bytes. ShowsEntries form bytes shown status)
+
+-- The fault is shown alone, if the list is read through before. If not, what comes before it is shown too.
+abbrev pub IsFaultOfList : Bool → Inputs → List ℕ → RunFault → Type 0
+IsFaultOfList true inputs name fault = IsNoneInFile inputs name fault
+IsFaultOfList false inputs name fault = ⊥
+
+-- What is shown of a list that comes no further: one that is read through before had no fault then.
+abbrev pub IsListBrokenOff : Bool → Form → Inputs → List ℕ → List ℕ → ℕ → Type 0
+IsListBrokenOff true form inputs name text status =
+    IsWholeList inputs name × EndsWithFault (StopsInFile (Some form) inputs name) (IsReported form) text status
+IsListBrokenOff false form inputs name text status =
+    EndsWithFault (BreaksOffAfterEntries (Some form) inputs name) (IsReported form) text status

@@ -20,14 +20,17 @@ pub use agent_inputs::{
 };
 pub use agent_plans::{
     AttestOptions, ComparisonKind, ComparisonOptions, ConfirmedBy, Conversion, DataShown, Form,
-    LogFile, Measurement, NameEnd, Names, Plan, Print, Query, Quoting, Scope, SigningOptions, Task,
+    LogFile, Look, Measurement, NameEnd, Names, Plan, Print, Query, Quoting, Scope, SigningOptions,
+    Task,
 };
 pub use answers::{write_positions, write_report};
 pub use boot_verdict::{
     Aggregate, Located, Position, Report, Requirement, Row, State, VerifyFault, all_found,
     list_start, locate, locate_from, replay_from, required_found, verify, verify_from,
 };
-pub use command_line::{arguments_after_name, asks_quiet};
+pub use command_line::{
+    arguments_after_name, as_on_terminal, asks_quiet, color_choice, refusal_of,
+};
 pub use event_lines::write_events;
 pub use measuring::FileProgress;
 pub use pcr_values::{

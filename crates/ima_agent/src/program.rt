@@ -105,7 +105,7 @@ fn exits_with(status: u8) -> ExitCode
 /// The whole output is prepared before its first byte is written; a fault is written as one line. But `events` looks its log through
 /// for a fault, and then writes the lines of the events one after another, so that memory does not grow with them; `show` reads its list through for a
 /// fault, and then writes the lines of the entries while it reads the list again, so that memory does not grow with it, unless it is no regular file.
-/// `show --json` writes them while it reads the list for the first time, and `events --json` those of the events while it
+/// `show --json` and `show --partial` write them while it reads the list for the first time, and `events --json` those of the events while it
 /// reads the loaded log: a fault's line then comes after those of the entries or events before it, whatever the fault. So it does with `show` if a
 /// fault is found only when the list is read again: the list has changed, cannot be read, or memory runs out. With `--expected` or
 /// `--quote` the log is looked through before, and so it is with `--explain`: then only the line of a fault of memory may come after some. The status is 0 on success, 1
@@ -243,7 +243,7 @@ fn perform<R: Threads + Wait + Sync, F: AgentFiles, S: Sink, P: Progress>(
             converted_for(alloc, files, input, *conversion, progress),
             sink,
         ),
-        Task::Entries { list } => entries_for(alloc, files, list, form, sink),
+        Task::Entries { list, partial } => entries_for(alloc, files, list, *partial, form, sink),
         Task::Help(text) => send_text(text.as_bytes(), DONE, sink),
         Task::Version => send_text(version_text(), DONE, sink),
     }
@@ -334,6 +334,7 @@ fn answer_for<F: AgentFiles>(
         request_of(question, &known),
         save_of(question),
         form,
+        question.look(),
     )
 }
 

@@ -1,7 +1,7 @@
 //! The registers of a log and the entries of a list, as the program shows them.
 
 ghost use Rattle.std.specs.Prelude.{◌≡◌, ◌⊎◌, Some, IfOk, IfErr, OnErr};
-ghost use Rattle.cells.specs.declared.writer.Form.TheVariants.{Json, Text};
+ghost use Rattle.cells.specs.declared.writer.Form.TheVariants.{Text};
 ghost use Rattle.agent_plans.specs.declared.plan.Task.TheVariants as tasks;
 ghost use Rattle.agent_inputs.specs.Faults.{fault_of_list};
 ghost use Rattle.agent_inputs.specs.Loading.{Inputs, IsInputFault};
@@ -47,32 +47,58 @@ fn registers_in(alloc: Global, text: Vec<u8>, form: Form) -> Prepared
     Ok(given.output)
 }
 
-/// Sends the entries of the list in the file of this name, in this form.
+/// Sends the entries of the list in the file of this name, in this form. As text a list is read through for a fault before, unless the entries before
+/// one are asked for.
 pub(crate) fn entries_for<F: AgentFiles, S: Sink>(
     alloc: Global,
     files: &mut F,
     list: &String,
+    partial: bool,
     form: Form,
     sink: &mut S,
 ) -> Sent
-    ensures { Streams form (IsOutcome (F.inputs files.old) (tasks.Entries list.now) form (F.replaced files.old) (F.replaced files.new))
+    ensures { Streams form (IsOutcome (F.inputs files.old) (tasks.Entries list.now partial) form (F.replaced files.old) (F.replaced files.new))
         (S.state sink.old) (S.state sink.new) result }
 {
     match form {
-        Form::Text => send_sound_list(alloc, files, list, sink),
-        Form::Json => send_list(alloc, files, list, sink),
+        Form::Text => send_as_text(alloc, files, list, partial, sink),
+        Form::Json => send_list(alloc, files, list, Form::Json, sink),
     }
 }
 
-// Sends as JSON the entries of the list in the file of this name while it is read; of a damaged one those before its fault.
-fn send_list<F: AgentFiles, S: Sink>(alloc: Global, files: &mut F, list: &str, sink: &mut S) -> Sent
-    ensures streams { Streams Json (ShowsEntriesOf Json (F.inputs files.old) list.now) (S.state sink.old) (S.state sink.new) result }
+// Sends as text the entries of the list in the file of this name.
+fn send_as_text<F: AgentFiles, S: Sink>(
+    alloc: Global,
+    files: &mut F,
+    list: &String,
+    partial: bool,
+    sink: &mut S,
+) -> Sent
+    ensures { Streams Text (IsOutcome (F.inputs files.old) (tasks.Entries list.now partial) Text (F.replaced files.old) (F.replaced files.new))
+        (S.state sink.old) (S.state sink.new) result }
+{
+    if partial {
+        send_list(alloc, files, list, Form::Text, sink)
+    } else {
+        send_sound_list(alloc, files, list, sink)
+    }
+}
+
+// Sends in this form the entries of the list in the file of this name while it is read; of a damaged one those before its fault.
+fn send_list<F: AgentFiles, S: Sink>(
+    alloc: Global,
+    files: &mut F,
+    list: &str,
+    form: Form,
+    sink: &mut S,
+) -> Sent
+    ensures streams { Streams form (ShowsEntriesOf form (F.inputs files.old) list.now) (S.state sink.old) (S.state sink.new) result }
     ensures replaced { F.replaced files.new ≡ F.replaced files.old }
 {
     let Ok(mut source) = files.source(Some(list)) else {
         return Err(StreamFault::Run(not_read(alloc, list)));
     };
-    send_lines(alloc, Form::Json, list, &mut source, sink)
+    send_lines(alloc, form, list, &mut source, sink)
 }
 
 // Sends as text the entries of the list in the file of this name, which is read through before: a fault of it comes alone. What is no regular file

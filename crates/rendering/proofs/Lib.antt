@@ -1,3 +1,4 @@
 pub mod EntryLineLaws
 pub mod FaultCellLaws
 pub mod SummaryLaws
+pub mod SummaryLineLaws

@@ -1,3 +1,4 @@
 pub mod FaultTexts
 pub mod Rendering
 pub mod Summaries
+pub mod SummaryLines

@@ -7,6 +7,8 @@ use Rattle.attestations.specs.Reports.{attest_verdict_of, is_signed}
 use Rattle.cells.specs.Cells.{Cell, rendered}
 use Rattle.cells.specs.Values.{Member}
 use Rattle.answers.specs.AttestationCells.{attestation_cell}
+use Rattle.answers.specs.declared.row_order.RowOrder.{RowOrder}
+use Rattle.answers.specs.declared.row_order.RowOrder.TheVariants.{Given, ResetLast}
 use Rattle.answers.specs.KeyCells.{key_cell}
 use Rattle.answers.specs.PositionCells.{positions_cell}
 use Rattle.answers.specs.RegisterCells.{expected_cell, registers_cell}
@@ -16,6 +18,8 @@ use Rattle.judging.specs.declared.request.Answer.TheVariants.{Attestation, Repor
 use Rattle.judging.specs.declared.request.Answered.{Answered}
 use Rattle.cells.specs.declared.writer.Form.{Form}
 use Rattle.cells.specs.declared.writer.Form.TheVariants as forms
+use Rattle.agent_plans.specs.declared.plan.Look.{Look}
+use Rattle.agent_plans.specs.declared.plan.Look.TheVariants as looks
 use Rattle.agent_plans.specs.declared.plan.Print.{Print}
 use Rattle.agent_plans.specs.declared.plan.Print.TheVariants as prints
 use Rattle.ima_list.specs.Lines.{line_of as entry_text}
@@ -31,22 +35,34 @@ use Rattle.judging.specs.Answering.{IsAnswer, IsRefusal}
 use Rattle.judging.specs.Requests.{Requested}
 use Rattle.rendering.specs.declared.summary.Summary.{Summary}
 use Rattle.rendering.specs.Summaries.{summary_of}
+use Rattle.rendering.specs.SummaryLines.{summary_line}
 
--- The cell of an answer, with whether all is well, the registers that are required, and the entries that are not known.
-abbrev pub answer_cell : Bool → Option (List BankRange) → Option UnknownFiles → Answer → Cell Member
-answer_cell success required unknown (Attestation report) = attestation_cell unknown (attest_verdict_of report)
-answer_cell success required unknown (Report report) = report_cell required unknown success (verdict_of report)
-answer_cell success required unknown (Prefix prefix) =
-    prefix_cell required unknown (verdict_of prefix.report) prefix.entries prefix.unconfirmed
-answer_cell success required unknown (Positions positions) = positions_cell required positions.items
-answer_cell success required unknown (ListReport report) = list_report_cell required unknown (list_verdict_of report)
-answer_cell success required unknown (Registers registers) = registers_cell registers.now registers.start
-answer_cell success required unknown (Expected expected) = expected_cell expected.items
-answer_cell success required unknown (Key report part) = key_cell part report
+-- The cell of an answer, with the order of its rows, whether all is well, the registers that are required, and the entries that are not known.
+abbrev pub answer_cell : RowOrder → Bool → Option (List BankRange) → Option UnknownFiles → Answer → Cell Member
+answer_cell order success required unknown (Attestation report) = attestation_cell order unknown (attest_verdict_of report)
+answer_cell order success required unknown (Report report) = report_cell order required unknown success (verdict_of report)
+answer_cell order success required unknown (Prefix prefix) =
+    prefix_cell order required unknown (verdict_of prefix.report) prefix.entries prefix.unconfirmed
+answer_cell order success required unknown (Positions positions) = positions_cell required positions.items
+answer_cell order success required unknown (ListReport report) = list_report_cell order required unknown (list_verdict_of report)
+answer_cell order success required unknown (Registers registers) = registers_cell registers.now registers.start
+answer_cell order success required unknown (Expected expected) = expected_cell expected.items
+answer_cell order success required unknown (Key report part) = key_cell part report
+
+-- The answer in this form, with its rows in this order.
+abbrev pub rendered_in : RowOrder → Form → Answered → List ℕ
+rendered_in order form given = rendered form (answer_cell order given.is_success given.requirement given.unknown given.answer)
 
 -- The answer in this form.
 abbrev pub render : Form → Answered → List ℕ
-render form given = rendered form (answer_cell given.is_success given.requirement given.unknown given.answer)
+render form given = rendered_in Given form given
+
+-- The answer in this form, and as text with this look: as it is, with PCRs at reset last, or in one line.
+abbrev pub shown_as : Form → Look → Answered → List ℕ
+shown_as forms.Json look given = render forms.Json given
+shown_as forms.Text looks.Plain given = render forms.Text given
+shown_as forms.Text looks.Terminal given = rendered_in ResetLast forms.Text given
+shown_as forms.Text looks.Summary given = summary_line (summary_of given)
 
 -- ---- a measurement
 
@@ -66,11 +82,11 @@ answer_status true answer = 0
 answer_status false (Attestation report) = if is_signed (attest_verdict_of report).signature then 1 else 4
 answer_status false answer = 1
 
--- What is shown is the answer to what is asked for, in this form; this is its exit status; and this is where to go on.
-pub record IsShown (inputs : Inputs) (request : Requested) (form : Form) (shown : List ℕ) (status : ℕ) (next : Option SavedState) : Type 0 where
+-- What is shown is the text of the answer to what is asked for; this is its exit status; and this is where to go on.
+pub record IsShown (inputs : Inputs) (request : Requested) (text_of : Answered → List ℕ) (shown : List ℕ) (status : ℕ) (next : Option SavedState) : Type 0 where
   pub given : Answered
   pub answer : IsAnswer inputs request given
-  pub text_is : shown ≡ render form given
+  pub text_is : shown ≡ text_of given
   pub status_is : status ≡ answer_status given.is_success given.answer
   pub next_is : next ≡ given.next
 
@@ -80,9 +96,9 @@ HasSaved old new (Some name) (Some next) = HasReplaced old new (record { name = 
 HasSaved old new name next = new ≡ old
 
 -- The answer is shown. If all is well, the checkpoint of what it is on is saved, if a name is given for it; nothing else is.
-abbrev pub ShowsAnswer : Inputs → Requested → Option (List ℕ) → Form → ReplacedFiles → ReplacedFiles → List ℕ → ℕ → Type 0
-ShowsAnswer inputs request save form old new shown status =
-    (next : Option SavedState) × IsShown inputs request form shown status next × HasSaved old new save next
+abbrev pub ShowsAnswer : Inputs → Requested → Option (List ℕ) → Form → Look → ReplacedFiles → ReplacedFiles → List ℕ → ℕ → Type 0
+ShowsAnswer inputs request save form look old new shown status =
+    (next : Option SavedState) × IsShown inputs request (shown_as form look) shown status next × HasSaved old new save next
 
 -- The summary is that of an answer to what is asked for.
 abbrev pub IsSummaryOn : Inputs → Requested → Summary → Type 0
@@ -96,7 +112,7 @@ state_of (Some next) = checkpoint_text next
 -- The answer is given; if all is well, the text of the checkpoint of what it is on; and its summary.
 abbrev pub GivesAnswer : Inputs → Requested → Form → List ℕ → ℕ → List ℕ → Summary → Type 0
 GivesAnswer inputs request form shown status state summary =
-    (next : Option SavedState) × (is : IsShown inputs request form shown status next) × (state ≡ state_of next) × (summary ≡ summary_of is.given)
+    (next : Option SavedState) × (is : IsShown inputs request (render form) shown status next) × (state ≡ state_of next) × (summary ≡ summary_of is.given)
 
 -- There is a checkpoint to be written under a name that is given, and it could not be; or memory ran out.
 abbrev pub IsNotSaved : Option (List ℕ) → Option SavedState → RunFault → Type 0

@@ -48,7 +48,7 @@ pub enum Failure<'a> {
     },
     /// The answer to a question: it is a match, and no register was compared.
     NothingCompared,
-    /// The answer to a question: something differs, and no register was compared. `Differs` follows.
+    /// The answer to a question: it is not a match, and no register was compared or looked for. `Differs` follows.
     NothingToCompare {
         /// What was asked.
         question: &'a Query,

@@ -1,0 +1,4 @@
+pub mod Choice
+pub mod Lines
+pub mod Sinks
+pub mod States
