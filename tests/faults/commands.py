@@ -404,7 +404,7 @@ class Commands(harness.TestCase):
             self.check(f"try: passed on: {title}", said(text), (2, wanted))
         self.check("try: without an answer all is shown", said(f"{sentence}\n{checked}", "run=none"),
                    (NOT_BUILT, f"{sentence}\n{checked}\nrun=none\ntry: there is no answer\n"))
-        times = re.compile(r"try: compiling the program, then running it: (\d+) s so far, some 3 minutes on an idle computer\n")
+        times = re.compile(r"try: compiling the program, then running it: (\d+) s so far, some 2 minutes on an idle computer\n")
         status, errors = said(f"{sentence}\n{checked}", TAKING="11")
         found = [int(seconds) for seconds in times.findall(errors)]
         self.check("try: it says each 10 seconds what it does", (status, found[:1] in ([10], [11]), times.sub("", errors)), (2, True, f"{sentence}\n"))
